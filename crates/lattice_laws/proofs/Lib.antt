@@ -1,0 +1,11 @@
+pub mod Tests
+pub mod Members
+pub mod Signs
+pub mod Conformal
+pub mod Products
+pub mod Elements
+pub mod Rising
+pub mod SlackBases
+pub mod UnitVectors
+pub mod Descent
+pub mod Completion
