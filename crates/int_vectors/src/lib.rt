@@ -1,0 +1,13 @@
+//! Vectors of whole numbers, as slices of one length in each call: the conformal order, the 1-norm, the
+//! lexicographic order, products and sums. Only `add` takes memory.
+#![tactic(auto)]
+
+mod conformal;
+mod product;
+mod single;
+mod total;
+
+pub use conformal::{conforms, greatest_multiple};
+pub use product::dot;
+pub use single::{cmp_lex, is_zero, leads_positive, norm1};
+pub use total::{VecFault, add};
