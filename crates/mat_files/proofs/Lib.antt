@@ -1,0 +1,7 @@
+mod MatrixLaws
+mod TokenLaws
+mod NumberLaws
+mod ReadingLaws
+mod PrintingLaws
+mod RoundTrip
+mod KnownValues

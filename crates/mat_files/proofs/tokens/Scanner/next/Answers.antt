@@ -1,0 +1,27 @@
+use Rattle.std.proofs.Common.{rules, ap, sym, ◌∙◌, drop, take, length, ◌-◌}
+use Rattle.mat_files.proofs.TokenLaws.{IsScanned, scanned_token, scanned_nothing}
+use Rattle.mat_files.proofs.tokens.Scanner.next.Goals as goal
+use Rattle.mat_files.proofs.tokens.Scanner.next.Goals.{After-split_at-2}
+
+-- what was cut off is white space and then a token
+cut : (c : After-split_at-2) → IsScanned c.self.inside.at (length c.split_at.result.0.now) (length c.split_at-2.result.0.now)
+    c.self.inside.bytes.now c.split_at.result.1.now c.split_at-2.result.0.now
+cut c =
+    let bytes = c.self.inside.bytes.now in
+    let at = c.self.inside.at in
+    let front = c.split_at.ensures in
+    let token = c.split_at-2.ensures in
+    record {
+      white_is = front.front_len ∙ c.white_len.ensures.value;
+      left_is = front.back ∙ ap (λ k. drop k (take (length bytes - at) (drop at bytes))) (sym front.front_len);
+      size_is = token.front_len ∙ c.token_len.ensures.value;
+      text_is = token.front ∙ ap (λ k. take k c.split_at.result.1.now) (sym token.front_len);
+    }
+
+pub returns : goal.returns
+returns c = sym c.self.view_is ∙ scanned_token (cut (goal.at.returns c).After-split_at-2) (search rules)
+
+pub returns-then-is_empty : goal.returns-then-is_empty
+returns-then-is_empty c =
+    let ends = scanned_nothing (cut (goal.at.returns-then-is_empty c).After-split_at-2) (search rules) in
+    (sym c.self.view_is ∙ ends.0, ends.1)
