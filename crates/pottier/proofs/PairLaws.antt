@@ -1,0 +1,97 @@
+-- Laws of narrow vectors, of their sums, and of the members below a vector.
+use Rattle.std.proofs.Common.{◌≡◌, ℕ, ◌+◌, ◌*◌, ◌<◌, ◌≤◌, ◌^◌, ℤ, ◌+ℤ◌, unsigned_abs, Bool, true, false, not, ◌||◌, cond, List, [], ◌∷◌, ◌++◌, length, take, get_or, refl, ap, arith, sym, ◌∙◌, Contains, ◌⊎◌, inl, inr, subst, Some, None, Vec}
+use Rattle.std.specs.List.{AllByRecursion, position_from}
+use Rattle.std.specs.declared.alloc.Global.{Global}
+use Rattle.std.proofs.lemmas.Int.{ints}
+use Rattle.std.proofs.lemmas.Bool.Decides.{nat_tests}
+use Rattle.std.proofs.lemmas.List.{map_more, take_all, get_or-map, length-map}
+use Rattle.std.proofs.lemmas.List.Elements.{recursion_from_All, All-take, Contains-push_cases}
+use Rattle.lattice_theory.specs.Vectors.{Vector, conforms, norm1, add, opposite, is_bounded, first_unbounded}
+use Rattle.lattice_theory.specs.BasisLimits.{IsNarrow}
+use Rattle.lattice_laws.proofs.Tests.{not_both}
+use Rattle.lattice_laws.proofs.Conformal.{norm1-cons, norm_agree, take-add, opposite-opposite}
+use Rattle.lattice_laws.proofs.SlackBases.{IsReducible}
+use Rattle.lattice_laws.proofs.Completion.{counts, counts_parts}
+use Rattle.pottier.specs.Vectors.{vectors}
+
+-- ---- narrow vectors
+
+norm_narrow : (v : Vector) → AllByRecursion (λ a. unsigned_abs a < 2 ^ 31) v → norm1 v ≤ 2 ^ 31 * length v
+norm_narrow [] h = omega arith
+norm_narrow (a ∷ v) h = omega (arith, norm1-cons a v, norm_narrow v h.1, h.0)
+
+pub norm_of_narrow : (n : ℕ) (v : Vector) → IsNarrow v → norm1 (take n v) ≤ 2 ^ 31 * length (take n v)
+norm_of_narrow n v h = norm_narrow (take n v) (recursion_from_All (λ a. unsigned_abs a < 2 ^ 31) (take n v) (All-take (λ a. unsigned_abs a < 2 ^ 31) n v h))
+
+pub norm_of_pair : (n : ℕ) (p q : Vector) → counts n p q ≡ true → norm1 (take n p) + norm1 (take n q) ≡ norm1 (take n (add p q))
+norm_of_pair n p q h = sym (norm_agree (take n p) (take n q) (counts_parts n p q h).0) ∙ ap norm1 (sym (take-add n p q))
+
+-- the sum of narrow vectors has no large entry
+sum_bounded : (i : ℕ) (p q : Vector) → AllByRecursion (λ a. unsigned_abs a < 2 ^ 31) p → AllByRecursion (λ a. unsigned_abs a < 2 ^ 31) q →
+    position_from (λ a. not (is_bounded a)) i (add p q) ≡ None
+sum_bounded i [] q h k = refl
+sum_bounded i (a ∷ p) [] h k = refl
+sum_bounded i (a ∷ p) (b ∷ q) h k =
+    by (is_bounded (a +ℤ b)) (small a b h.0 k.0) (sum_bounded (i + 1) p q h.1 k.1)
+  where
+    small : (a b : ℤ) → unsigned_abs a < 2 ^ 31 → unsigned_abs b < 2 ^ 31 → is_bounded (a +ℤ b) ≡ true
+    small a b h k = let s : unsigned_abs (a +ℤ b) ≤ 2 ^ 62 = omega (arith, ints) in grind (arith, nat_tests)
+
+    by : (t : Bool) → t ≡ true → position_from (λ a. not (is_bounded a)) (i + 1) (add p q) ≡ None →
+        cond (not t) (Some i) (position_from (λ a. not (is_bounded a)) (i + 1) (add p q)) ≡ None
+    by true e r = r
+    by false e r = absurd (cc)
+
+pub no_large_sum : (p q : Vector) (at : ℕ) → IsNarrow p → IsNarrow q → first_unbounded (add p q) ≡ Some at → ⊥
+no_large_sum p q at h k e =
+    absurd (cc (sum_bounded 0 p q (recursion_from_All (λ a. unsigned_abs a < 2 ^ 31) p h) (recursion_from_All (λ a. unsigned_abs a < 2 ^ 31) q k)))
+
+-- ---- a member below z
+
+-- the test of one member
+abbrev pub lies_below : Vector → Vector → Bool
+lies_below v z = conforms v z || conforms (opposite v) z
+
+either_true : (s t : Bool) → (s || t) ≡ true → (s ≡ true) ⊎ (t ≡ true)
+either_true true t h = inl refl
+either_true false t h = inr h
+
+pub both_false : (s t : Bool) → (s || t) ≡ false → (s ≡ false) × (t ≡ false)
+both_false true t h = absurd (cc)
+both_false false t h = (refl, h)
+
+pub reducible_by : (vs : List Vector) (v z : Vector) → Contains vs v → lies_below v z ≡ true → IsReducible vs z
+reducible_by vs v z c h = elim (either_true (conforms v z) (conforms (opposite v) z) h) [
+  | inl b ↦ (v, inl c, b)
+  | inr b ↦ (opposite v, inr (subst (Contains vs) (sym (opposite-opposite v)) c), b)
+]
+
+pub none_reducible : (z : Vector) → IsReducible [] z → ⊥
+none_reducible z (e, inl (k, low, f), b) = absurd (omega arith)
+none_reducible z (e, inr (k, low, f), b) = absurd (omega arith)
+
+pub not_reducible_push : (vs : List Vector) (v z : Vector) → (IsReducible vs z → ⊥) → lies_below v z ≡ false → IsReducible (vs ++ v ∷ []) z → ⊥
+not_reducible_push vs v z none h (e, inl c, b) = elim (Contains-push_cases vs v e c) [
+  | inl d ↦ none (e, inl d, b)
+  | inr f ↦ not_both (conforms e z) b (ap (λ u. conforms u z) (sym f) ∙ (both_false (conforms v z) (conforms (opposite v) z) h).0)
+]
+not_reducible_push vs v z none h (e, inr c, b) = elim (Contains-push_cases vs v (opposite e) c) [
+  | inl d ↦ none (e, inr d, b)
+  | inr f ↦ not_both (conforms e z) b (ap (λ u. conforms u z) (sym (opposite-opposite e) ∙ ap opposite (sym f)) ∙ (both_false (conforms v z) (conforms (opposite v) z) h).1)
+]
+
+-- ---- the vectors of a list
+
+pub vectors_more : (members : List (Vec ℤ Global)) (i : ℕ) (x : Vec ℤ Global) → i < length members → x ≡ get_or members i x →
+    vectors (take (i + 1) members) ≡ vectors (take i members) ++ x.items ∷ []
+vectors_more members i x low e = map_more (λ v. v.items) members i x low ∙ ap (λ y. vectors (take i members) ++ y.items ∷ []) (sym e)
+
+pub vectors_all : (members : List (Vec ℤ Global)) (i : ℕ) → length members ≤ i → vectors (take i members) ≡ vectors members
+vectors_all members i low = ap vectors (take_all i members low)
+
+pub vectors_at : (members : List (Vec ℤ Global)) (i : ℕ) (x : Vec ℤ Global) → i < length members → x ≡ get_or members i x → Contains (vectors members) x.items
+vectors_at members i x low e =
+    (i, size, get_or-map (λ v. v.items) members i x x.items low ∙ ap (λ y. y.items) (sym e))
+  where
+    size : i < length (vectors members)
+    size = omega (arith, length-map members (λ v. v.items))

@@ -1,0 +1,313 @@
+-- Laws of one row more and of the last row: the stage that it begins, the limits that stay passed, and the
+-- slack basis that is left.
+use Rattle.std.proofs.Common.{◌≡◌, ◌≢◌, ℕ, zero, suc, ◌+◌, ◌<◌, ◌≤◌, ◌^◌, ℤ, unsigned_abs, true, false, List, [], ◌∷◌, ◌++◌, length, map, take, drop, get_or, refl, ap, arith, sym, ◌∙◌, IsTrue, Contains, inl, inr, subst, length-append, append_assoc, add-one, pos, set, Some, slice_get, Vec}
+use Rattle.std.specs.List.{All}
+use Rattle.std.proofs.lemmas.List.{length-map, get_or-map, take-append-drop, take_more, get_or_append_left, length_push, map-append, map_push, append-nil, nil_from_length, take_all, length-take-le}
+use Rattle.std.specs.declared.alloc.Global.{Global}
+use Rattle.std.proofs.lemmas.List.Elements.{All-contains, All-get_or, All-map, All-nil, All-cons, All-push, All-take, All-drop, All-replicate, All-weaker, Contains-get_or, Contains-append_right}
+use Rattle.std.specs.List.Sorted.{IsSorted, IsPermutation}
+use Rattle.std.specs.Ordering.{is_lt}
+use Rattle.std.proofs.lemmas.List.Sorted.{All-permutation, Contains-permutation, IsPermutation-map, length_permutation}
+use Rattle.std.proofs.lemmas.List.Kept.{AllPairs-cons}
+use Rattle.std.proofs.lemmas.Option.{slice_get-get_or}
+use Rattle.lattice_theory.specs.Vectors.{Vector, ◌⊑◌, dot, zeros, is_zero, is_rising, lex_cmp, lex_less, leads_positive, opposite}
+use Rattle.lattice_theory.specs.Matrices.{Matrix, unit_vector, rows_of}
+use Rattle.lattice_theory.specs.Lattices.{InLattice, IsMinimal, IsSlackBasis}
+use Rattle.lattice_theory.specs.BasisLimits.{IsNarrow, IsBasisElement, ExceedsBasis, IsBasisWithin}
+use Rattle.lattice_laws.proofs.Conformal.{leads_not_both, opposite-opposite, opposite-take, opposite_nonzero}
+use Rattle.lattice_laws.proofs.Elements.{width, with_rows, width-with_rows, lifted, lifted_in, cut-lifted, cut_in, cut_nonzero, is_lifted, element-lifted, closed_opposite}
+use Rattle.lattice_laws.proofs.Rising.{AreDifferent, rising_above, rising_tail, lex_less_irrefl, different_permutation, rising_from_sorted}
+use Rattle.lattice_laws.proofs.SlackBases.{IsSigned, exceeds_by_many}
+use Rattle.lattice_laws.proofs.Members.{contains_head}
+use Rattle.lattice_laws.proofs.UnitVectors.{first_units, without_rows, length-unit, length-first_units, units_elements, units_differ, units_cover}
+use Rattle.lattice_laws.proofs.Completion.{CoversCut}
+use Rattle.pottier.specs.Vectors.{vectors}
+use Rattle.pottier.specs.Stages.{AreMembers, AreFitting, IsStage, IsCompleted, first_rows, with_product}
+use Rattle.pottier.specs.Faults.{LimitOnly, IsBasisFault}
+use Rattle.pottier.specs.declared.fault.BasisFault.{BasisFault}
+use Rattle.pottier.specs.declared.fault.BasisFault.TheVariants.{Limit, Memory}
+use Rattle.pottier.proofs.StageLaws.{vectors_push}
+
+-- ---- lists of lifted elements
+
+contains-map : (f : Vector → Vector) (vs : List Vector) (v : Vector) → Contains vs v → Contains (map f vs) (f v)
+contains-map f vs v (k, low, e) =
+    (k, omega (arith, length-map vs f), get_or-map f vs k v (f v) low ∙ ap f e)
+
+-- different elements are different with further entries
+lifted_different : (m : Matrix) (more vs : List Vector) → ((e : Vector) → Contains vs e → InLattice m e) → AreDifferent vs → AreDifferent (map (lifted m more) vs)
+lifted_different m more vs inside h i j d before low e =
+    let size : length (map (lifted m more) vs) ≡ length vs = length-map vs (lifted m more) in
+    let at_i : i < length vs = omega arith in
+    let at_j : j < length vs = omega arith in
+    let u = get_or vs i d in
+    let v = get_or vs j d in
+    let same : lifted m more u ≡ lifted m more v = sym (get_or-map (lifted m more) vs i d d at_i) ∙ e ∙ get_or-map (lifted m more) vs j d d at_j in
+    h i j d before at_j
+    (sym (cut-lifted m more u (inside u (Contains-get_or vs i d at_i))) ∙ ap (take (width m)) same ∙ cut-lifted m more v (inside v (Contains-get_or vs j d at_j)))
+
+each_member : (P : Vector → Type 0) (vs : List Vector) → ((v : Vector) → Contains vs v → P v) → All P vs
+each_member P vs h = λ k d low. h (get_or vs k d) (Contains-get_or vs k d low)
+
+rising_different : (vs : List Vector) → is_rising vs ≡ true → AreDifferent vs
+rising_different [] h = λ i j d before low. absurd (omega arith)
+rising_different (v ∷ vs) h =
+    AllPairs-cons (λ u w. u ≢ w) v vs
+    (each_member (λ w. v ≢ w) vs (λ w c e. lex_less_irrefl w (subst (λ u. lex_less u w ≡ true) e (rising_above v vs w h c))))
+    (rising_different vs (rising_tail v vs h))
+
+narrow_front : (u v : Vector) → IsNarrow (u ++ v) → IsNarrow u
+narrow_front u v h = λ k d low.
+    subst (λ a. unsigned_abs a < 2 ^ 31) (get_or_append_left u v d k low) (h k d (omega (arith, length-append u v)))
+
+-- ---- limits
+
+-- a limit that is passed for the first rows is passed for more
+pub exceeds_lifted : (m : Matrix) (more : List Vector) (limit : ℕ) → ExceedsBasis m limit → ExceedsBasis (with_rows m more) limit
+exceeds_lifted m more limit (inl (zs, rising, many, sound)) =
+    exceeds_by_many (with_rows m more) limit (map (lifted m more) zs)
+    (lifted_different m more zs (λ e c. (All-contains (IsBasisElement m) zs e sound c).0.member) (rising_different zs rising))
+    (omega (arith, many, length-map zs (lifted m more)))
+    (All-map (IsBasisElement (with_rows m more)) (lifted m more) zs (All-weaker (IsBasisElement m) (λ z. IsBasisElement (with_rows m more) (lifted m more z)) (λ z e. element-lifted m more z e) zs sound))
+exceeds_lifted m more limit (inr (z, e, wide)) =
+    inr (lifted m more z, element-lifted m more z e, λ narrow. wide (narrow_front z (map (λ row. dot row (take m.cols z)) more) narrow))
+
+pub rows_apart : (n : ℕ) (m : Matrix) → with_rows (first_rows n m) (drop n m.rows) ≡ m
+rows_apart n m = ap (λ rows. record { cols = m.cols; rows = rows }) (take-append-drop n m.rows)
+
+pub exceeds_first : (n limit : ℕ) (m : Matrix) → ExceedsBasis (first_rows n m) limit → ExceedsBasis m limit
+exceeds_first n limit m h = subst (λ a. ExceedsBasis a limit) (rows_apart n m) (exceeds_lifted (first_rows n m) (drop n m.rows) limit h)
+
+-- ---- the stage that a row begins
+
+module _ (m : Matrix) (row : Vector) (size : m.cols ≡ length row) where
+  product_is : (z : Vector) → with_product row z ≡ lifted m (row ∷ []) z
+  product_is z = ap (λ n. z ++ dot row (take n z) ∷ []) (sym size)
+
+  -- signs turned before or after the row
+  lifted-opposite : (e : Vector) → InLattice m e → opposite (lifted m (row ∷ []) e) ≡ lifted m (row ∷ []) (opposite e)
+  lifted-opposite e h =
+      let z = lifted m (row ∷ []) e in
+      is_lifted m (row ∷ []) (opposite z) (closed_opposite (with_rows m (row ∷ [])) z (lifted_in m (row ∷ []) e h))
+      ∙ ap (lifted m (row ∷ [])) (sym (opposite-take (width m) z) ∙ ap opposite (cut-lifted m (row ∷ []) e h))
+
+  pub stage_started : (at : ℕ) (vs : List Vector) → width m ≡ at → IsCompleted m vs → IsStage (with_rows m (row ∷ [])) at (map (with_product row) vs)
+  stage_started at vs e h =
+      subst (λ f. IsStage (with_rows m (row ∷ [])) at (map f vs)) (λ i z. sym (product_is z) i)
+      (record {
+        size = omega (arith, width-with_rows m (row ∷ []), e);
+        first = omega (arith, e);
+        sound = All-map (IsBasisElement (with_rows m (row ∷ []))) (lifted m (row ∷ [])) vs
+            (All-weaker (IsBasisElement m) (λ z. IsBasisElement (with_rows m (row ∷ [])) (lifted m (row ∷ []) z)) (λ z k. element-lifted m (row ∷ []) z k) vs h.sound);
+        different = lifted_different m (row ∷ []) vs (λ z c. (All-contains (IsBasisElement m) vs z h.sound c).0.member) h.different;
+        covers = covered;
+      })
+    where
+      inside : (z : Vector) → IsSigned vs z → InLattice m z
+      inside z (inl c) = (All-contains (IsBasisElement m) vs z h.sound c).0.member
+      inside z (inr c) =
+          subst (InLattice m) (opposite-opposite z) (closed_opposite m (opposite z) (All-contains (IsBasisElement m) vs (opposite z) h.sound c).0.member)
+
+      signed : (z : Vector) → IsSigned vs z → IsSigned (map (lifted m (row ∷ [])) vs) (lifted m (row ∷ []) z)
+      signed z (inl c) = inl (contains-map (lifted m (row ∷ [])) vs z c)
+      signed z (inr c) =
+          inr (subst (Contains (map (lifted m (row ∷ [])) vs)) (sym (lifted-opposite z (inside z (inr c)))) (contains-map (lifted m (row ∷ [])) vs (opposite z) c))
+
+      covered : CoversCut (with_rows m (row ∷ [])) at (map (lifted m (row ∷ [])) vs)
+      covered y i n =
+          let c = h.covers (take (width m) y) (cut_in m (row ∷ []) y i) (cut_nonzero m (row ∷ []) y i n) in (
+            lifted m (row ∷ []) c.0,
+            signed c.0 c.1,
+            subst (λ k. take k (lifted m (row ∷ []) c.0) ⊑ take k y) e
+                (subst (λ z. z ⊑ take (width m) y) (sym (cut-lifted m (row ∷ []) c.0 (inside c.0 c.1))) c.2),
+          )
+
+  -- a wide product is a wide entry of the basis
+  pub exceeds_by_product : (limit : ℕ) (vs : List Vector) (z : Vector) → IsCompleted m vs → Contains vs z → (IsNarrow (with_product row z) → ⊥) → ExceedsBasis (with_rows m (row ∷ [])) limit
+  exceeds_by_product limit vs z h c wide =
+      inr (
+        with_product row z,
+        subst (IsBasisElement (with_rows m (row ∷ []))) (sym (product_is z)) (element-lifted m (row ∷ []) z (All-contains (IsBasisElement m) vs z h.sound c)),
+        wide,
+      )
+
+-- ---- the rows one after the other
+
+pub next_rows : (n : ℕ) (m : Matrix) (row : Vector) → n < length m.rows → slice_get m.rows n ≡ Some row → with_rows (first_rows n m) (row ∷ []) ≡ first_rows (n + 1) m
+next_rows n m row low e =
+    let same : get_or m.rows n row ≡ row = cc (slice_get-get_or m.rows n row low) in
+    ap (λ rows. record { cols = m.cols; rows = rows }) (sym (take_more m.rows n row low ∙ ap (λ r. take n m.rows ++ r ∷ []) same))
+
+-- ---- the basis that is left
+
+pub completed_slack : (m : Matrix) (vs : List Vector) → IsCompleted m vs → IsTrue (is_rising vs) → IsSlackBasis m vs
+completed_slack m vs h rising = record {
+  rising = rising;
+  sound = h.sound;
+  complete = λ z minimal leads.
+      let c = h.covers z minimal.member minimal.nonzero in
+      listed z c.0 minimal leads c.1 c.2;
+}
+  where
+    listed : (z e : Vector) → IsMinimal m z → leads_positive z ≡ true → IsSigned vs e → e ⊑ z → Contains vs z
+    listed z e minimal leads (inl c) b =
+        let k = All-contains (IsBasisElement m) vs e h.sound c in
+        subst (Contains vs) (minimal.least e k.0.member k.0.nonzero b) c
+    listed z e minimal leads (inr c) b =
+        let k = All-contains (IsBasisElement m) vs (opposite e) h.sound c in
+        let inside : InLattice m e = subst (InLattice m) (opposite-opposite e) (closed_opposite m (opposite e) k.0.member) in
+        let nonzero : is_zero e ≡ false = subst (λ u. is_zero u ≡ false) (opposite-opposite e) (opposite_nonzero (opposite e) k.0.nonzero) in
+        let same : e ≡ z = minimal.least e inside nonzero b in
+        absurd (leads_not_both z leads (ap (λ u. leads_positive (opposite u)) (sym same) ∙ k.1))
+
+-- ---- lists that are taken apart
+
+pub still_member : (members done rest more : List (Vec ℤ Global)) (x : Vec ℤ Global) → members ≡ done ++ rest → rest ≡ x ∷ more → Contains (vectors members) x.items
+still_member members done rest more x e f =
+    subst (λ vs. Contains vs x.items) (sym (ap vectors e ∙ map-append (λ v. v.items) done rest))
+    (Contains-append_right (vectors done) (vectors rest) x.items (subst (λ r. Contains (vectors r) x.items) (sym f) (contains_head x.items (vectors more))))
+
+pub one_taken : (members done rest more : List (Vec ℤ Global)) (x : Vec ℤ Global) → members ≡ done ++ rest → rest ≡ x ∷ more → members ≡ (done ++ x ∷ []) ++ more
+one_taken members done rest more x e f = e ∙ ap (λ r. done ++ r) f ∙ sym (append_assoc done (x ∷ []) more)
+
+pub products_push : (row : Vector) (lists longer done : List (Vec ℤ Global)) (y x : Vec ℤ Global) → vectors lists ≡ map (with_product row) (vectors done) → longer ≡ lists ++ y ∷ [] → y.items ≡ with_product row x.items →
+    vectors longer ≡ map (with_product row) (vectors (done ++ x ∷ []))
+products_push row lists longer done y x e f g =
+    vectors_push lists longer y f ∙ (λ i. e i ++ g i ∷ [])
+    ∙ sym (ap (map (with_product row)) (map_push (λ v. v.items) done x) ∙ map_push (with_product row) (vectors done) x.items)
+
+pub all_taken : (members done rest : List (Vec ℤ Global)) → members ≡ done ++ rest → length rest ≡ 0 → done ≡ members
+all_taken members done rest e low = sym (e ∙ ap (λ r. done ++ r) (nil_from_length rest low) ∙ append-nil done)
+
+-- ---- unit vectors
+
+pub unit_set : (t j : ℕ) → j < t → set (zeros t) j (pos 1) ≡ unit_vector t j
+unit_set zero j h = absurd (omega arith)
+unit_set (suc t) zero h = refl
+unit_set (suc t) (suc j) h = ap (λ v. pos 0 ∷ v) (unit_set t j (omega arith))
+
+pub units_push : (t n : ℕ) (units longer : List (Vec ℤ Global)) (y : Vec ℤ Global) → vectors units ≡ first_units t n → longer ≡ units ++ y ∷ [] → y.items ≡ unit_vector t n → vectors longer ≡ first_units t (n + 1)
+units_push t n units longer y e f g = vectors_push units longer y f ∙ (λ i. e i ++ g i ∷ []) ∙ sym (ap (first_units t) (add-one n))
+
+-- ---- refusals
+
+-- what one member refuses is a wide member of the list
+pub wide_member : (row : Vector) (vs : List Vector) (z : Vector) → Contains vs z → (fault : BasisFault) → LimitOnly (IsNarrow (with_product row z) → ⊥) fault →
+    LimitOnly ((v : Vector) × Contains vs v × (IsNarrow (with_product row v) → ⊥)) fault
+wide_member row vs z c Limit h = (z, c, h)
+wide_member row vs z c Memory h = tt
+
+-- a limit that is passed shows more where it is passed for less
+pub limit_only : (P Q : Type 0) → (P → Q) → (fault : BasisFault) → LimitOnly P fault → LimitOnly Q fault
+limit_only P Q f Limit h = f h
+limit_only P Q f Memory h = tt
+
+-- ---- what fits
+
+product_length : (row z : Vector) → length (with_product row z) ≡ length z + 1
+product_length row z = length_push z (dot row (take (length row) z))
+
+pub extended_fits : (at limit : ℕ) (row : Vector) (vs more : List Vector) → AreFitting at limit vs → more ≡ map (with_product row) vs → All IsNarrow more → AreFitting (at + 1) limit more
+extended_fits at limit row vs more h e narrow = record {
+  members = λ k d low. (All-get_or (λ z. length z ≡ at + 1) more k d low sizes, All-get_or IsNarrow more k d low narrow);
+  short = omega (arith, h.short, ap length e, length-map vs (with_product row));
+}
+  where
+    sizes : All (λ z. length z ≡ at + 1) more
+    sizes =
+        subst (All (λ z. length z ≡ at + 1)) (sym e)
+        (All-map (λ z. length z ≡ at + 1) (with_product row) vs
+        (All-weaker (λ z. (length z ≡ at) × IsNarrow z) (λ z. length (with_product row z) ≡ at + 1) (λ z k. omega (arith, k.0, product_length row z)) vs h.members))
+
+narrow_unit : (t j : ℕ) → IsNarrow (unit_vector t j)
+narrow_unit zero j = All-nil (λ a. unsigned_abs a < 2 ^ 31)
+narrow_unit (suc t) zero = All-cons (λ a. unsigned_abs a < 2 ^ 31) (pos 1) (zeros t) (omega arith) (All-replicate (λ a. unsigned_abs a < 2 ^ 31) t (pos 0) (omega arith))
+narrow_unit (suc t) (suc j) = All-cons (λ a. unsigned_abs a < 2 ^ 31) (pos 0) (unit_vector t j) (omega arith) (narrow_unit t j)
+
+units_members : (t n : ℕ) → AreMembers t (first_units t n)
+units_members t zero = All-nil (λ z. (length z ≡ t) × IsNarrow z)
+units_members t (suc n) =
+    All-push (λ z. (length z ≡ t) × IsNarrow z) (first_units t n) (unit_vector t n) (units_members t n) (length-unit t n, narrow_unit t n)
+
+pub units_fit : (t limit : ℕ) → t ≤ limit → AreFitting t limit (first_units t t)
+units_fit t limit h = record { members = units_members t t; short = omega (arith, length-first_units t t) }
+
+pub units_completed : (t : ℕ) → IsCompleted (without_rows t) (first_units t t)
+units_completed t = record { sound = units_elements t; different = units_differ t; covers = units_cover t }
+
+-- more columns than the limit: the unit vectors are too many
+pub exceeds_by_units : (m : Matrix) (limit : ℕ) → limit < m.cols → ExceedsBasis m limit
+exceeds_by_units m limit h =
+    exceeds_first 0 limit m
+    (exceeds_by_many (without_rows m.cols) limit (first_units m.cols m.cols) (units_differ m.cols) (omega (arith, h, length-first_units m.cols m.cols)) (units_elements m.cols))
+
+-- ---- the sorted basis
+
+sorted_vectors : (members : List (Vec ℤ Global)) → IsSorted (λ x y. lex_cmp x.items y.items) members → IsSorted lex_cmp (vectors members)
+sorted_vectors [] s k d low high = absurd (omega (arith, high))
+sorted_vectors (x ∷ xs) s k d low high =
+    let size : length (vectors (x ∷ xs)) ≡ length (x ∷ xs) = length-map (x ∷ xs) (λ v. v.items) in
+    let there : k + 1 < length (x ∷ xs) = omega (arith, high, size) in
+    let one : k < length (x ∷ xs) = omega (arith, there) in
+    let first : get_or (vectors (x ∷ xs)) k d ≡ (get_or (x ∷ xs) k x).items = get_or-map (λ v. v.items) (x ∷ xs) k x d one in
+    let second : get_or (vectors (x ∷ xs)) (k + 1) d ≡ (get_or (x ∷ xs) (k + 1) x).items = get_or-map (λ v. v.items) (x ∷ xs) (k + 1) x d there in
+    (λ i. is_lt (lex_cmp (second i) (first i))) ∙ s k x low there
+
+permuted_completed : (m : Matrix) (us vs : List Vector) → IsPermutation us vs → IsCompleted m us → IsCompleted m vs
+permuted_completed m us vs p h = record {
+  sound = All-permutation (IsBasisElement m) us vs p h.sound;
+  different = different_permutation us vs p h.different;
+  covers = λ y i n. let r = h.covers y i n in (r.0, signed r.0 r.1, r.2);
+}
+  where
+    signed : (e : Vector) → IsSigned us e → IsSigned vs e
+    signed e (inl c) = inl (Contains-permutation us vs e p c)
+    signed e (inr c) = inr (Contains-permutation us vs (opposite e) p c)
+
+pub sorted_fits : (size limit : ℕ) (members sorted : List (Vec ℤ Global)) → IsPermutation members sorted → AreFitting size limit (vectors members) → AreFitting size limit (vectors sorted)
+sorted_fits size limit members sorted p h =
+    let q = IsPermutation-map (λ v. v.items) members sorted p in
+    record {
+      members = All-permutation (λ z. (length z ≡ size) × IsNarrow z) (vectors members) (vectors sorted) q h.members;
+      short = omega (arith, h.short, length_permutation (vectors members) (vectors sorted) q);
+    }
+
+pub sorted_basis : (m : Matrix) (size limit : ℕ) (members sorted : List (Vec ℤ Global)) → IsPermutation members sorted → IsSorted (λ x y. lex_cmp x.items y.items) sorted → AreFitting size limit (vectors members) →
+    IsCompleted m (vectors members) → IsBasisWithin m limit (vectors sorted)
+sorted_basis m size limit members sorted p s h done =
+    let q = IsPermutation-map (λ v. v.items) members sorted p in
+    let fits = sorted_fits size limit members sorted p h in
+    let all = permuted_completed m (vectors members) (vectors sorted) q done in
+    record {
+      slack = completed_slack m (vectors sorted) all (rising_from_sorted (vectors sorted) (sorted_vectors sorted s) all.different);
+      short = fits.short;
+      narrow = All-weaker (λ z. (length z ≡ size) × IsNarrow z) IsNarrow (λ z k. k.1) (vectors sorted) fits.members;
+    }
+
+-- ---- the rows so far
+
+pub row_narrow : (rows : List Vector) (n place : ℕ) (row : Vector) → All IsNarrow rows → place ≡ n → n < length rows → slice_get rows place ≡ Some row → IsNarrow row
+row_narrow rows n place row h e low f =
+    let is : slice_get rows n ≡ Some row = ap (slice_get rows) (sym e) ∙ f in
+    let same : get_or rows n row ≡ row = cc (slice_get-get_or rows n row low) in
+    subst IsNarrow same (All-get_or IsNarrow rows n row low h)
+
+pub width_first : (m : Matrix) (n : ℕ) → n ≤ length m.rows → width (first_rows n m) ≡ m.cols + n
+width_first m n h = omega (arith, length-take-le n m.rows h)
+
+pub first_all : (m : Matrix) (n : ℕ) → length m.rows ≤ n → first_rows n m ≡ m
+first_all m n h = ap (λ rows. record { cols = m.cols; rows = rows }) (take_all n m.rows h)
+
+-- a fault for one row more is one for all rows
+pub first_fault : (m : Matrix) (n limit : ℕ) (row : Vector) (fault : BasisFault) → with_rows (first_rows n m) (row ∷ []) ≡ first_rows (n + 1) m →
+    IsBasisFault (with_rows (first_rows n m) (row ∷ [])) limit fault → IsBasisFault m limit fault
+first_fault m n limit row fault e h =
+    limit_only (ExceedsBasis (with_rows (first_rows n m) (row ∷ [])) limit) (ExceedsBasis m limit)
+    (λ x. exceeds_first (n + 1) limit m (subst (λ a. ExceedsBasis a limit) e x)) fault h
+
+-- rows made of narrow entries are narrow
+pub rows_narrow : (n cols : ℕ) (entries : Vector) → IsNarrow entries → All IsNarrow (rows_of n cols entries)
+rows_narrow zero cols entries h = All-nil IsNarrow
+rows_narrow (suc n) cols entries h =
+    All-cons IsNarrow (take cols entries) (rows_of n cols (drop cols entries)) (All-take (λ a. unsigned_abs a < 2 ^ 31) cols entries h)
+    (rows_narrow n cols (drop cols entries) (All-drop (λ a. unsigned_abs a < 2 ^ 31) cols entries h))

@@ -1,0 +1,4 @@
+pub mod Vectors
+pub mod Stages
+pub mod Bases
+pub mod Faults

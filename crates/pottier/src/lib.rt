@@ -1,0 +1,15 @@
+//! Slack bases of integer matrices.
+//!
+//! The lattice of a matrix A holds all (v, A·v). Its slack basis is its Graver basis, the finitely many
+//! elements that are minimal in the conformal order, one of each pair of signs.
+#![tactic(auto)]
+
+mod basis;
+mod completion;
+mod fault;
+mod pairs;
+mod slack;
+
+pub use basis::{Basis, kernel, one_basis};
+pub use fault::BasisFault;
+pub use slack::slack_basis;

@@ -1,0 +1,114 @@
+//! Pairs of vectors of one length, whose last entry is the new one: when a pair counts, its norm and its sum.
+
+ghost use Rattle.std.specs.Prelude.{◌≡◌, ◌≤◌, ◌<◌, ◌^◌, ◌+◌, ◌↔◌, IsTrue, IfOk, IfErr, OnOk, length, take, All, MatchBool, unsigned_abs, true, ◌||◌};
+ghost use Rattle.lattice_theory.specs.Vectors as vector;
+ghost use Rattle.lattice_theory.specs.BasisLimits.{IsNarrow};
+ghost use Rattle.lattice_laws.proofs.Signs as signs;
+ghost use Rattle.lattice_laws.proofs.Conformal as conformal;
+ghost use Rattle.lattice_laws.proofs.SlackBases.{IsReducible};
+ghost use Rattle.lattice_laws.proofs.Completion as completion;
+ghost use Rattle.pottier.specs.Vectors.{vectors};
+ghost use Rattle.pottier.specs.Faults.{LimitOnly};
+
+use crate::BasisFault;
+use int_vectors::{VecFault, add, conforms, norm1};
+use std::alloc::{AllocError, Global};
+
+/// Whether the pair counts: its vectors agree before the last entry, and clash there.
+pub fn counts(p: &[i64], q: &[i64], at: usize) -> bool
+    requires first { length p.now ≡ at + 1 }
+    requires second { length q.now ≡ at + 1 }
+    ensures { result ≡ completion.counts at p.now q.now }
+{
+    agree(&p[..at], &q[..at]) && !agrees(p[at], q[at])
+}
+
+/// Whether neither number has the other's sign.
+fn agrees(x: i64, y: i64) -> bool
+    ensures { result ≡ signs.agrees x y }
+{
+    x == 0 || y == 0 || (x < 0) == (y < 0)
+}
+
+/// Whether no two entries at one place have opposite signs.
+fn agree(p: &[i64], q: &[i64]) -> bool
+    requires { length p.now ≡ length q.now }
+    ensures { result ≡ conformal.agree p.now q.now }
+{
+    for (x, y) in p.iter().zip(q) {
+        if !agrees(*x, *y) {
+            return false;
+        }
+    }
+    true
+}
+
+/// The norm before the last entry of the sum of a pair that counts.
+pub fn pair_norm(p: &[i64], q: &[i64], at: usize) -> u128
+    requires first { length p.now ≡ at + 1 }
+    requires second { length q.now ≡ at + 1 }
+    requires few { at ≤ 2016 }
+    requires narrow { IsNarrow p.now }
+    requires narrower { IsNarrow q.now }
+    ensures norm { completion.counts at p.now q.now ≡ true → result ≡ vector.norm1 (take at (vector.add p.now q.now)) }
+    ensures small { result < 2 ^ 43 }
+{
+    norm1(&p[..at]) + norm1(&q[..at])
+}
+
+/// The sum of two narrow vectors.
+pub fn sum(alloc: Global, p: &[i64], q: &[i64]) -> Result<Vec<i64>, BasisFault>
+    requires same { length p.now ≡ length q.now }
+    requires narrow { IsNarrow p.now }
+    requires narrower { IsNarrow q.now }
+    ensures sum { IfOk result (λ z. z.items ≡ vector.add p.now q.now) }
+    ensures refused { IfErr result (LimitOnly ⊥) }
+{
+    match add(alloc, p, q) {
+        Ok(sum) => Ok(sum),
+        Err(VecFault::TooLarge { .. }) => Err(BasisFault::Limit),
+        Err(VecFault::Memory) => Err(BasisFault::Memory),
+    }
+}
+
+/// The vector with all signs turned.
+pub fn opposite(alloc: Global, z: &[i64]) -> Result<Vec<i64>, AllocError>
+    requires { All (λ x. unsigned_abs x < 2 ^ 62) z.now }
+    ensures { IfOk result (λ turned. turned.items ≡ vector.opposite z.now) }
+{
+    let mut turned = Vec::with_capacity(alloc, z.len())?;
+    for x in z {
+        turned.push(-*x)?;
+    }
+    Ok(turned)
+}
+
+/// Whether a member, with either sign, is conformally below `z`, whose opposite is `turned`.
+pub fn is_reducible(members: &[Vec<i64>], z: &[i64], turned: &[i64]) -> bool
+    requires opposites { turned.now ≡ vector.opposite z.now }
+    requires same { All (λ v. length v ≡ length z.now) (vectors members.now) }
+    ensures { MatchBool result (IsReducible (vectors members.now) z.now) (IsReducible (vectors members.now) z.now → ⊥) }
+{
+    for member in members {
+        if lies_below(member, z, turned) {
+            return true;
+        }
+    }
+    false
+}
+
+/// Whether the member, with either sign, is conformally below `z`, whose opposite is `turned`.
+fn lies_below(member: &[i64], z: &[i64], turned: &[i64]) -> bool
+    requires opposites { turned.now ≡ vector.opposite z.now }
+    requires same { length member.now ≡ length z.now }
+    ensures { result ≡ (vector.conforms member.now z.now || vector.conforms (vector.opposite member.now) z.now) }
+{
+    conforms(member, z) || conforms(member, turned)
+}
+
+/// Whether each entry is at most `2^31 - 1` in absolute value.
+pub fn is_narrow(z: &[i64]) -> bool
+    ensures { MatchBool result (IsNarrow z.now) (IsNarrow z.now → ⊥) }
+{
+    z.iter().all(|x| x.unsigned_abs() < 1 << 31)
+}
