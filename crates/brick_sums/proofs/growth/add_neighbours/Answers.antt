@@ -1,0 +1,58 @@
+use Rattle.std.proofs.Common.{◌≡◌, ◌+◌, ◌-◌, arith, length, sym, ◌∙◌, take, suc}
+use Rattle.std.proofs.lemmas.List.{take_all}
+use Rattle.lattice_theory.specs.BasisLimits.{IsNarrow}
+use Rattle.brick_sums.specs.Levels.{HasBoth}
+use Rattle.brick_sums.proofs.SumLaws.{IsSignedSum-width, IsSignedSum-small, slice_get-All, slice_get-Contains, All-take_more}
+use Rattle.brick_sums.proofs.LevelLaws.{AreGrown-itself, AreGrown-trans, AreGrown-neighbours, HasNeighbours-kept}
+use Rattle.brick_sums.proofs.growth.add_neighbours.Goals as goal
+
+pub plus-requires-clause-same : goal.plus-requires-clause-same
+plus-requires-clause-same c =
+    IsSignedSum-width c.args.gens.now.cols c.args.gens.now.rows c.requires.even c.args.level _ c.requires.sum
+    ∙ sym c.row-e.ensures.width
+
+pub plus-requires-clause-first : goal.plus-requires-clause-first
+plus-requires-clause-first c =
+    IsSignedSum-small c.args.gens.now.cols c.args.gens.now.rows c.requires.narrow c.args.level _ c.requires.low c.requires.sum
+
+pub plus-requires-clause-second : goal.plus-requires-clause-second
+plus-requires-clause-second c = slice_get-All IsNarrow c.args.gens.now.rows _ _ c.row-e.ensures.entries c.requires.narrow
+
+pub minus-requires-clause-same : goal.minus-requires-clause-same
+minus-requires-clause-same c =
+    IsSignedSum-width c.args.gens.now.cols c.args.gens.now.rows c.requires.even c.args.level _ c.requires.sum
+    ∙ sym c.row-e.ensures.width
+
+pub minus-requires-clause-first : goal.minus-requires-clause-first
+minus-requires-clause-first c =
+    IsSignedSum-small c.args.gens.now.cols c.args.gens.now.rows c.requires.narrow c.args.level _ c.requires.low c.requires.sum
+
+pub minus-requires-clause-second : goal.minus-requires-clause-second
+minus-requires-clause-second c = slice_get-All IsNarrow c.args.gens.now.rows _ _ c.row-e.ensures.entries c.requires.narrow
+
+pub loop-row-init : goal.loop-row-init
+loop-row-init c = record { grown = AreGrown-itself _ _ _ _ c.requires.so_far; done = λ k d none. absurd (omega (arith, none)) }
+
+-- the sum and the difference with this generator were offered
+pub loop-row-preserved : goal.loop-row-preserved
+loop-row-preserved c =
+    let gens = c.args.gens.now.rows in
+    let old = c.loop-row.members.items in
+    let new = c.offer-in-loop-row.new.members.items in
+    let next : c.args.level + 1 ≡ suc c.args.level = omega arith in
+    let place : c.loop-row.row + 1 - 1 ≡ c.loop-row.row = omega arith in
+    let here = rw place at c.row-e.ensures.entries in
+    let both = AreGrown-neighbours c.args.gens.now.cols gens c.args.level _ next _ _ _ _ old _ new c.requires.sum
+    (slice_get-Contains gens _ _ here) c.in_ok-plus.ensures c.in_ok-minus.ensures c.loop-row.invariant.grown.so_far
+    c.in_ok-offer.ensures c.in_ok-offer-2.ensures in
+    record {
+      grown = AreGrown-trans _ _ _ _ _ _ c.loop-row.invariant.grown both.grew;
+      done = All-take_more (HasBoth new c.args.before.now) gens _ _ here
+          (HasNeighbours-kept (take c.loop-row.row gens) _ old new both.grew.kept c.loop-row.invariant.done) both.there;
+    }
+
+pub returns-clause-done : goal.returns-clause-done
+returns-clause-done c =
+    let all : length c.args.gens.now.rows ≡ c.loop-row.row =
+    omega (arith, c.rows-row-end.ensures, c.loop-row.auto.row-end, c.loop-row-test.false) in
+    rw (take_all c.loop-row.row c.args.gens.now.rows (omega (arith, all))) at c.loop-row.invariant.done

@@ -1,0 +1,4 @@
+pub mod Generators
+pub mod Places
+pub mod Levels
+pub mod Refusals
