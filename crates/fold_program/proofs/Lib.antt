@@ -1,0 +1,12 @@
+mod KnownValues
+mod BrickLaws
+mod ViewLaws
+mod BreakLaws
+mod SumLaws
+mod FeasibleLaws
+mod ScanLaws
+mod BoundLaws
+mod AcceptLaws
+mod PartsLaws
+mod CostLaws
+mod PointLaws

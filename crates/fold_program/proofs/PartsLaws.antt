@@ -1,0 +1,178 @@
+-- What parts of the right shapes make: a refusal, or a program.
+use Rattle.std.proofs.Common.{◌≡◌, ℕ, ◌+◌, ◌*◌, ◌^◌, ◌-◌, ◌≤◌, ◌<◌, nat_lt, Bool, true, false, List, [], ◌∷◌, ◌++◌, length, drop, refl, ap, arith, sym, ◌∙◌, Some, None, cond, length-take, sum_by, min, All, subst, IsTrue}
+use Rattle.std.specs.List.{AllByRecursion, zip}
+use Rattle.std.proofs.lemmas.Bool.Decides.{nat_tests}
+use Rattle.std.proofs.lemmas.List.{length-drop, append-nil}
+use Rattle.std.proofs.lemmas.List.Elements.{recursion_from_All, All-from_recursion, All-append, All-head, All-tail, All-nil}
+use Rattle.std.proofs.Math.Nat.{mul-le-mul_right}
+use Rattle.lattice_theory.specs.Vectors.{Vector, is_bounded}
+use Rattle.fold_theory.specs.declared.Cost.{Cost}
+use Rattle.fold_theory.specs.Costs.{BoundedCost}
+use Rattle.fold_theory.specs.Programs.{IsBrick, IsProgram}
+use Rattle.fold_program.specs.Parts.{PartsValue, bricks_from, program_of, AreEven}
+use Rattle.fold_program.specs.Refusals.{Refusal, first_misshaped, CostAt, CostSum, head_of, of_each, crossed_in, cost_faults_in, program_refusal, total_magnitude, brick_magnitude}
+use Rattle.fold_program.specs.declared.parts.Parts.{Parts}
+use Rattle.fold_program.specs.declared.fault.ProgramFault.{ProgramFault}
+use Rattle.fold_program.specs.declared.fault.ProgramFault.TheVariants as fault
+use Rattle.fold_program.specs.Faults.{IsBoundedRow, AreWithinLimits, IsProgramFault, parts_value}
+use Rattle.fold_program.specs.Kept.{IsKept}
+use Rattle.fold_program.specs.Bounds.{IsGood, AreBoundCosts, IsCostRefusal, cost_magnitude, scan, crossed_at, fault_at}
+use Rattle.fold_program.proofs.ScanLaws.{flat, crossed_rows, fault_rows}
+use Rattle.fold_program.proofs.AcceptLaws.{AreShaped, length-flat, bricks_fit, bricks_weigh}
+
+-- every row is within the limit, so every entry is
+pub bounded_flat : (rows : List Vector) → All IsBoundedRow rows → IsBoundedRow (flat rows)
+bounded_flat [] h = All-nil (λ a. IsTrue (is_bounded a))
+bounded_flat (row ∷ rows) h =
+    All-append (λ a. IsTrue (is_bounded a)) row (flat rows) (All-head IsBoundedRow row rows h) (bounded_flat rows (All-tail IsBoundedRow row rows h))
+
+-- the first refusal of a list whose first part is empty, or is not
+first_part : (xs ys : List Refusal) (r : Refusal) → head_of xs ≡ Some r → head_of (xs ++ ys) ≡ Some r
+first_part [] ys r e = absurd (cc)
+first_part (x ∷ xs) ys r e = e
+
+module _ (p : PartsValue) (shaped : AreShaped p) (even : AreEven p) where
+  lower_even : AllByRecursion (λ row. length row ≡ p.link.cols) p.lower.rows
+  lower_even = subst (λ (n : ℕ). AllByRecursion (λ row. length row ≡ n) p.lower.rows) shaped.lower_cols (recursion_from_All (λ row. length row ≡ p.lower.cols) p.lower.rows even.lower)
+
+  upper_even : AllByRecursion (λ row. length row ≡ p.link.cols) p.upper.rows
+  upper_even = subst (λ (n : ℕ). AllByRecursion (λ row. length row ≡ n) p.upper.rows) shaped.upper_cols (recursion_from_All (λ row. length row ≡ p.upper.cols) p.upper.rows even.upper)
+
+  pub lowers_are : length (flat p.lower.rows) ≡ length p.costs
+  lowers_are = length-flat p.link.cols p.lower.rows lower_even ∙ sym shaped.costs
+
+  pub uppers_are : length (flat p.upper.rows) ≡ length p.costs
+  uppers_are = length-flat p.link.cols p.upper.rows upper_even ∙ ap (λ n. n * p.link.cols) shaped.upper_rows ∙ sym shaped.costs
+
+  pub few_costs : length p.costs < 2 ^ 31
+  few_costs =
+      let rows : length p.lower.rows * p.link.cols ≤ 10000 * p.link.cols = mul-le-mul_right p.link.cols shaped.lower_to in
+      omega (arith, rows, shaped.cols_to, shaped.costs)
+
+  some_cols : 0 < p.link.cols
+  some_cols = omega (arith, shaped.cols_from)
+
+  pub crossed_are : of_each (λ i b. crossed_in i 1 b.lower b.upper) 1 (program_of p).bricks ≡ scan (crossed_at p.link.cols) 0 (zip (flat p.lower.rows) (flat p.upper.rows))
+  crossed_are =
+      let start : 0 * p.link.cols ≡ 0 = omega arith in
+      rw start at (crossed_rows p.link.cols (length p.brick.rows) 0 p.lower.rows p.upper.rows (drop (length p.link.rows) (flat p.right.rows)) p.costs lower_even upper_even (sym shaped.upper_rows))
+
+  pub faults_are : of_each (λ i b. cost_faults_in i 1 b.costs b.lower b.upper) 1 (program_of p).bricks ≡ scan (fault_at p.link.cols) 0 (zip p.costs (zip (flat p.lower.rows) (flat p.upper.rows)))
+  faults_are =
+      let start : 0 * p.link.cols ≡ 0 = omega arith in
+      rw start at (fault_rows p.link.cols (length p.brick.rows) 0 p.lower.rows p.upper.rows (drop (length p.link.rows) (flat p.right.rows)) p.costs lower_even upper_even (sym shaped.upper_rows) shaped.costs)
+
+  -- crossed bounds come first
+  pub refused_crossed : (r : Refusal) → head_of (scan (crossed_at p.link.cols) 0 (zip (flat p.lower.rows) (flat p.upper.rows))) ≡ Some r → program_refusal (program_of p) ≡ Some r
+  refused_crossed r e =
+      let crossed = of_each (λ i b. crossed_in i 1 b.lower b.upper) 1 (program_of p).bricks in
+      let faults = of_each (λ i b. cost_faults_in i 1 b.costs b.lower b.upper) 1 (program_of p).bricks in
+      let sum = cond (nat_lt (2 ^ 120) (total_magnitude (program_of p))) (CostSum ∷ []) [] in
+      first_part (crossed ++ faults) sum r (first_part crossed faults r (ap head_of crossed_are ∙ e))
+
+  -- then the costs
+  pub refused_cost : (r : Refusal) → scan (crossed_at p.link.cols) 0 (zip (flat p.lower.rows) (flat p.upper.rows)) ≡ [] →
+      head_of (scan (fault_at p.link.cols) 0 (zip p.costs (zip (flat p.lower.rows) (flat p.upper.rows)))) ≡ Some r → program_refusal (program_of p) ≡ Some r
+  refused_cost r none e =
+      let faults = of_each (λ i b. cost_faults_in i 1 b.costs b.lower b.upper) 1 (program_of p).bricks in
+      let sum = cond (nat_lt (2 ^ 120) (total_magnitude (program_of p))) (CostSum ∷ []) [] in
+      ap (λ xs. head_of (xs ++ faults ++ sum)) (crossed_are ∙ none) ∙ first_part faults sum r (ap head_of faults_are ∙ e)
+
+  -- then their sum
+  last_refusal : (b : Bool) → nat_lt (2 ^ 120) (total_magnitude (program_of p)) ≡ b → scan (crossed_at p.link.cols) 0 (zip (flat p.lower.rows) (flat p.upper.rows)) ≡ [] →
+      scan (fault_at p.link.cols) 0 (zip p.costs (zip (flat p.lower.rows) (flat p.upper.rows))) ≡ [] → program_refusal (program_of p) ≡ head_of (cond b (CostSum ∷ []) [])
+  last_refusal b test none faultless =
+      let faults = of_each (λ i b. cost_faults_in i 1 b.costs b.lower b.upper) 1 (program_of p).bricks in
+      let sum = cond (nat_lt (2 ^ 120) (total_magnitude (program_of p))) (CostSum ∷ []) [] in
+      ap (λ xs. head_of (xs ++ faults ++ sum)) (crossed_are ∙ none) ∙ ap (λ xs. head_of (xs ++ sum)) (faults_are ∙ faultless) ∙ ap (λ t. head_of (cond t (CostSum ∷ []) [])) test
+
+  module _ (cs : List BoundedCost) (bound : AreBoundCosts p.costs (flat p.lower.rows) (flat p.upper.rows) cs) where
+    pub total_is : total_magnitude (program_of p) ≡ sum_by cost_magnitude cs
+    total_is =
+        ap (λ costs. sum_by brick_magnitude (bricks_from p.link.cols (length p.brick.rows) p.lower.rows p.upper.rows (drop (length p.link.rows) (flat p.right.rows)) costs)) (sym bound.costs_are)
+        ∙ bricks_weigh p.link.cols (length p.brick.rows) p.lower.rows p.upper.rows (drop (length p.link.rows) (flat p.right.rows)) cs lower_even upper_even shaped.upper_rows bound.lower_is bound.upper_is
+
+    pub refused_sum : 2 ^ 120 < min (sum_by cost_magnitude cs) (2 ^ 128 - 1) → scan (crossed_at p.link.cols) 0 (zip (flat p.lower.rows) (flat p.upper.rows)) ≡ [] →
+        scan (fault_at p.link.cols) 0 (zip p.costs (zip (flat p.lower.rows) (flat p.upper.rows))) ≡ [] → program_refusal (program_of p) ≡ Some CostSum
+    refused_sum large none faultless =
+        let total = total_is in
+        let past : 2 ^ 120 < total_magnitude (program_of p) = omega arith in
+        let test : nat_lt (2 ^ 120) (total_magnitude (program_of p)) ≡ true = grind (arith, nat_tests) in
+        last_refusal true test none faultless
+
+    pub small_sum : min (sum_by cost_magnitude cs) (2 ^ 128 - 1) ≤ 2 ^ 120 → total_magnitude (program_of p) ≤ 2 ^ 120
+    small_sum small = let total = total_is in omega arith
+
+    pub accepted : total_magnitude (program_of p) ≤ 2 ^ 120 → scan (crossed_at p.link.cols) 0 (zip (flat p.lower.rows) (flat p.upper.rows)) ≡ [] →
+        scan (fault_at p.link.cols) 0 (zip p.costs (zip (flat p.lower.rows) (flat p.upper.rows))) ≡ [] → program_refusal (program_of p) ≡ None
+    accepted small none faultless =
+        let test : nat_lt (2 ^ 120) (total_magnitude (program_of p)) ≡ false = grind (arith, nat_tests) in
+        last_refusal false test none faultless
+
+    -- there are as many right sides as rows
+    rights_are : length (flat p.right.rows) ≡ length p.link.rows + length p.lower.rows * length p.brick.rows
+    rights_are = one p.right.rows shaped.right_rows (recursion_from_All (λ row. length row ≡ p.right.cols) p.right.rows even.right) ∙ shaped.right_cols
+      where
+        one : (rows : List Vector) → length rows ≡ 1 → AllByRecursion (λ row. length row ≡ p.right.cols) rows → length (flat rows) ≡ p.right.cols
+        one [] count widths = absurd (omega arith)
+        one (row ∷ []) count widths = ap length (append-nil row) ∙ widths.0
+        one (row ∷ more ∷ rows) count widths = absurd (omega arith)
+
+    pub is_program : IsProgram (program_of p)
+    is_program =
+        let rights = rights_are in
+        let size : length (drop (length p.link.rows) (flat p.right.rows)) ≡ length p.lower.rows * length p.brick.rows = simp length-drop (omega arith) in
+        let good = recursion_from_All IsGood cs bound.good in
+        let bricks = bricks_fit p.link.cols (length p.brick.rows) p.lower.rows p.upper.rows (drop (length p.link.rows) (flat p.right.rows)) cs lower_even upper_even shaped.upper_rows size bound.lower_is bound.upper_is good in
+        let fit = subst (λ (costs : List Cost). AllByRecursion (IsBrick p.link.cols (length p.brick.rows)) (bricks_from p.link.cols (length p.brick.rows) p.lower.rows p.upper.rows (drop (length p.link.rows) (flat p.right.rows)) costs)) bound.costs_are bricks in
+        record {
+          link_shape = record { height = refl; width = refl; each_row = even.link };
+          brick_shape = record {
+            height = refl;
+            width = shaped.brick_cols;
+            each_row = subst (λ (n : ℕ). All (λ row. length row ≡ n) p.brick.rows) shaped.brick_cols even.brick;
+          };
+          right_size = simp length-take (omega arith);
+          each_brick = All-from_recursion (IsBrick p.link.cols (length p.brick.rows)) (program_of p).bricks fit;
+        }
+
+-- the fault of the costs is that of the parts
+pub is_program_fault : (p : Parts) → AreShaped (parts_value p) → AreEven (parts_value p) → first_misshaped (parts_value p) ≡ None → (f : ProgramFault) →
+    scan (crossed_at p.link.cols) 0 (zip (flat p.lower.rows) (flat p.upper.rows)) ≡ [] →
+    IsCostRefusal (scan (fault_at p.link.cols) 0 (zip p.costs.items (zip (flat p.lower.rows) (flat p.upper.rows)))) f → IsProgramFault p f
+is_program_fault p shaped even fits (fault.Cost i j c) none refused = (fits, refused_cost (parts_value p) shaped even (CostAt i j c) none refused)
+is_program_fault p shaped even fits (fault.Shape k) none refused = absurd refused
+is_program_fault p shaped even fits (fault.CrossedBounds i j) none refused = absurd refused
+is_program_fault p shaped even fits fault.CostSumTooLarge none refused = absurd refused
+is_program_fault p shaped even fits fault.Memory none refused = tt
+
+-- all that a program keeps is true of parts that are accepted
+pub is_kept : (p : PartsValue) → AreShaped p → AreEven p → AreWithinLimits p → (cs : List BoundedCost) → AreBoundCosts p.costs (flat p.lower.rows) (flat p.upper.rows) cs →
+    min (sum_by cost_magnitude cs) (2 ^ 128 - 1) ≤ 2 ^ 120 →
+    IsKept (record { link = p.link; brick = p.brick; lower = p.lower; upper = p.upper; right = p.right; costs = cs })
+is_kept p shaped even limits cs bound small = record {
+  link_rows = shaped.link_rows;
+  cols_from = shaped.cols_from;
+  cols_to = shaped.cols_to;
+  brick_rows = shaped.brick_rows;
+  brick_cols = shaped.brick_cols;
+  bricks_from = shaped.lower_from;
+  bricks_to = shaped.lower_to;
+  lower_cols = shaped.lower_cols;
+  upper_rows = shaped.upper_rows;
+  upper_cols = shaped.upper_cols;
+  right_rows = shaped.right_rows;
+  right_cols = shaped.right_cols;
+  link_narrow = limits.link;
+  brick_narrow = limits.brick;
+  lower_bounded = limits.lower;
+  upper_bounded = limits.upper;
+  lower_widths = subst (λ (n : ℕ). All (λ row. length row ≡ n) p.lower.rows) shaped.lower_cols even.lower;
+  upper_widths = subst (λ (n : ℕ). All (λ row. length row ≡ n) p.upper.rows) shaped.upper_cols even.upper;
+  lowers = bound.lower_is;
+  uppers = bound.upper_is;
+  small = subst (λ (costs : List Cost). total_magnitude (program_of (record { link = p.link; brick = p.brick; lower = p.lower; upper = p.upper; right = p.right; costs = costs })) ≤ 2 ^ 120)
+      (sym bound.costs_are) (small_sum p shaped even cs bound small);
+  program = subst (λ (costs : List Cost). IsProgram (program_of (record { link = p.link; brick = p.brick; lower = p.lower; upper = p.upper; right = p.right; costs = costs })))
+      (sym bound.costs_are) (is_program p shaped even cs bound);
+}

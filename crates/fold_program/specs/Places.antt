@@ -1,0 +1,15 @@
+-- Facts of one brick of a program, by its number.
+use Rattle.std.specs.Prelude.{◌≡◌, ℕ, ◌-◌, ℤ, Some, slice_get}
+use Rattle.fold_theory.specs.declared.Cost.{Cost}
+use Rattle.fold_theory.specs.Programs.{Program, Brick}
+
+-- there is a brick of this number, from 1, and this holds of it
+abbrev pub OfBrick : Program → ℕ → (Brick → Type 0) → Type 0
+OfBrick p i P = (b : Brick) × (slice_get p.bricks (i - 1) ≡ Some b) × P b
+
+-- there is a column of this number in that brick, and this holds of its lower bound, its upper bound and its cost
+abbrev pub OfColumn : Program → ℕ → ℕ → (ℤ → ℤ → Cost → Type 0) → Type 0
+OfColumn p i j P =
+    (b : Brick) × (lower : ℤ) × (upper : ℤ) × (cost : Cost) × (slice_get p.bricks (i - 1) ≡ Some b)
+    × (slice_get b.lower (j - 1) ≡ Some lower) × (slice_get b.upper (j - 1) ≡ Some upper) × (slice_get b.costs (j - 1) ≡ Some cost)
+    × P lower upper cost

@@ -1,0 +1,167 @@
+//! The program and its readers.
+
+mod acceptance;
+mod breaks;
+mod sums;
+
+ghost use Rattle.std.specs.Prelude.{◌≡◌, ◌≤◌, ◌-◌, ◌*◌, ◌^◌, Some, length, slice_get, All, IfSome, map};
+ghost use Rattle.lattice_theory.specs.BasisLimits.{IsNarrow};
+ghost use Rattle.fold_program.specs.Places.{OfBrick};
+
+use convex_costs::BoundCost;
+use mat_files::Matrix;
+use std::marker::Model;
+
+/// An n-fold program: `n` bricks of `t` columns with one matrix of `s` rows for each, `r` linking rows over all, and a lower
+/// bound, an upper bound and a convex cost for each column of each brick. Bricks, columns and rows are numbered from 1.
+#[derive(Debug, Drop)]
+pub struct Program {
+    link: Matrix,
+    brick: Matrix,
+    lower: Matrix,
+    upper: Matrix,
+    right: Matrix,
+    costs: Vec<BoundCost>,
+}
+
+impl Model for Program {
+    ghost use Rattle.fold_theory.specs.Programs as programs;
+    ghost use Rattle.fold_program.specs.Kept.{stored_program, IsKept};
+
+    ghost Value = { programs.Program };
+
+    ghost view = { λ p. stored_program (record { link = p.link; brick = p.brick; lower = p.lower; upper = p.upper; right = p.right; costs = p.costs.items }) };
+
+    ghost invariant = { λ p. IsKept (record { link = p.link; brick = p.brick; lower = p.lower; upper = p.upper; right = p.right; costs = p.costs.items }) };
+}
+
+impl Program {
+    /// How many bricks there are: 1 to 10,000.
+    pub fn n(&self) -> u32
+        ensures bricks { result ≡ length self.now.bricks }
+        ensures from { 1 ≤ result }
+        ensures to { result ≤ 10000 }
+    {
+        self.lower.rows()
+    }
+
+    /// How many columns each brick has: 1 to 32.
+    pub fn t(&self) -> u32
+        ensures cols { result ≡ self.now.link.cols }
+        ensures brick_cols { result ≡ self.now.brick.cols }
+        ensures from { 1 ≤ result }
+        ensures to { result ≤ 32 }
+    {
+        self.link.cols()
+    }
+
+    /// How many linking rows there are: 0 to 16.
+    pub fn r(&self) -> u32
+        ensures rows { result ≡ length self.now.link.rows }
+        ensures to { result ≤ 16 }
+    {
+        self.link.rows()
+    }
+
+    /// How many rows each brick has: 0 to 16.
+    pub fn s(&self) -> u32
+        ensures rows { result ≡ length self.now.brick.rows }
+        ensures to { result ≤ 16 }
+    {
+        self.brick.rows()
+    }
+
+    /// The linking matrix, whose entries are at most `2^31 - 1` in absolute value.
+    pub fn link(&self) -> &Matrix
+        ensures link { result.now ≡ self.now.link }
+        ensures narrow { All IsNarrow self.now.link.rows }
+    {
+        &self.link
+    }
+
+    /// The matrix of all bricks, whose entries are at most `2^31 - 1` in absolute value.
+    pub fn brick(&self) -> &Matrix
+        ensures brick { result.now ≡ self.now.brick }
+        ensures narrow { All IsNarrow self.now.brick.rows }
+    {
+        &self.brick
+    }
+
+    /// The lower bound of a column.
+    pub fn lower(&self, brick: u32, col: u32) -> i64
+        requires from { 1 ≤ brick }
+        requires to { brick ≤ length self.now.bricks }
+        requires left { 1 ≤ col }
+        requires right { col ≤ self.now.link.cols }
+        ensures { OfBrick self.now brick (λ b. slice_get b.lower (col - 1) ≡ Some result) }
+    {
+        self.lower.entry(brick, col)
+    }
+
+    /// The upper bound of a column.
+    pub fn upper(&self, brick: u32, col: u32) -> i64
+        requires from { 1 ≤ brick }
+        requires to { brick ≤ length self.now.bricks }
+        requires left { 1 ≤ col }
+        requires right { col ≤ self.now.link.cols }
+        ensures { OfBrick self.now brick (λ b. slice_get b.upper (col - 1) ≡ Some result) }
+    {
+        self.upper.entry(brick, col)
+    }
+
+    /// The right side of a linking row.
+    pub fn right_link(&self, row: u32) -> i64
+        requires from { 1 ≤ row }
+        requires to { row ≤ length self.now.link.rows }
+        ensures { slice_get self.now.link_right (row - 1) ≡ Some result }
+    {
+        self.right.entry(1, row)
+    }
+
+    /// The right side of a row of a brick.
+    pub fn right_brick(&self, brick: u32, row: u32) -> i64
+        requires from { 1 ≤ brick }
+        requires to { brick ≤ length self.now.bricks }
+        requires above { 1 ≤ row }
+        requires below { row ≤ length self.now.brick.rows }
+        ensures { OfBrick self.now brick (λ b. slice_get b.right (row - 1) ≡ Some result) }
+    {
+        self.right_row(brick)[row as usize - 1]
+    }
+
+    /// The lower bounds of a brick.
+    fn lower_row(&self, brick: u32) -> &[i64]
+        requires from { 1 ≤ brick }
+        requires to { brick ≤ length self.now.bricks }
+        ensures bounds { OfBrick self.now brick (λ b. result.now ≡ b.lower) }
+        ensures width { length result.now ≡ self.now.link.cols }
+        ensures few { length result.now ≤ 32 }
+    {
+        self.lower.row(brick)
+    }
+
+    /// The upper bounds of a brick.
+    fn upper_row(&self, brick: u32) -> &[i64]
+        requires from { 1 ≤ brick }
+        requires to { brick ≤ length self.now.bricks }
+        ensures bounds { OfBrick self.now brick (λ b. result.now ≡ b.upper) }
+        ensures width { length result.now ≡ self.now.link.cols }
+    {
+        self.upper.row(brick)
+    }
+
+    /// The right sides of a brick.
+    fn right_row(&self, brick: u32) -> &[i64]
+        requires from { 1 ≤ brick }
+        requires to { brick ≤ length self.now.bricks }
+        ensures rights { OfBrick self.now brick (λ b. result.now ≡ b.right) }
+        ensures height { length result.now ≡ length self.now.brick.rows }
+    {
+        let rows = self.brick.rows() as usize;
+        let from = self.link.rows() as usize + (brick as usize - 1) * rows;
+        &self.right.row(1)[from..from + rows]
+    }
+}
+
+#[cfg(test)]
+mod tests;

@@ -1,0 +1,206 @@
+//! A program of two bricks with two columns each, one linking row and one brick row, worked by hand.
+
+ghost use Rattle.std.specs.Prelude.{◌≡◌, pos, All, IfOk, IfSome};
+ghost use Rattle.fold_theory.specs.declared.Cost.TheVariants.{Quadratic};
+ghost use Rattle.lattice_theory.specs.BasisLimits.{IsNarrow};
+ghost use Rattle.convex_costs.specs.Bounds.{AreBounded};
+ghost use Rattle.fold_program.specs.Points.{HasPointShape};
+ghost use Rattle.fold_program.specs.Faults.{parts_value, AreWithinLimits, IsBoundedRow};
+
+use crate::{Broken, Cost, CostFault, FileKind, Parts, Point, Program, ProgramFault};
+use mat_files::Matrix;
+use std::alloc::{AllocError, Global};
+use std::rt::HostRuntime;
+use std::test::Fail;
+
+/// The linking row: the first column.
+fn first_column(alloc: Global) -> Result<Matrix, AllocError>
+    ensures { IfOk result (λ m. All IsNarrow m.rows) }
+{
+    Ok(Matrix::new(1, 2, [1, 0].to_vec(alloc)?))
+}
+
+/// The brick row: both columns.
+fn both_columns(alloc: Global) -> Result<Matrix, AllocError>
+    ensures { IfOk result (λ m. All IsNarrow m.rows) }
+{
+    Ok(Matrix::new(1, 2, [1, 1].to_vec(alloc)?))
+}
+
+/// The right sides, of the linking row and of each brick.
+fn rights(alloc: Global) -> Result<Matrix, AllocError>
+    ensures { IfOk result (λ m. All IsBoundedRow m.rows) }
+{
+    Ok(Matrix::new(1, 3, [3, 4, 4].to_vec(alloc)?))
+}
+
+/// The bounds of both bricks.
+#[tactic(auto, using(crate::proofs::PointLaws::bounded_rows))]
+fn bounds(alloc: Global, entries: [i64; 4]) -> Result<Matrix, AllocError>
+    requires { IsBoundedRow entries }
+    ensures { IfOk result (λ m. All IsBoundedRow m.rows) }
+{
+    Ok(Matrix::new(2, 2, entries.to_vec(alloc)?))
+}
+
+/// The parts with these bounds and costs.
+fn parts_with(
+    alloc: Global,
+    lower: [i64; 4],
+    upper: [i64; 4],
+    costs: Vec<Cost>,
+) -> Result<Parts, AllocError>
+    requires low { IsBoundedRow lower }
+    requires high { IsBoundedRow upper }
+    requires numbers { All AreBounded costs.items }
+    ensures limits { IfOk result (λ p. AreWithinLimits (parts_value p)) }
+{
+    Ok(Parts {
+        link: first_column(alloc)?,
+        brick: both_columns(alloc)?,
+        lower: bounds(alloc, lower)?,
+        upper: bounds(alloc, upper)?,
+        right: rights(alloc)?,
+        costs,
+    })
+}
+
+/// A multiple of the square.
+fn multiple(a: i64) -> Cost
+    ensures { result ≡ Quadratic a (pos 0) (pos 0) }
+{
+    Cost::Quadratic { a, b: 0, c: 0 }
+}
+
+/// Multiples of the square.
+fn multiples(alloc: Global, factors: [i64; 4]) -> Result<Vec<Cost>, AllocError>
+    requires { IsBoundedRow factors }
+    ensures numbers { IfOk result (λ costs. All AreBounded costs.items) }
+{
+    let [a, b, c, d] = factors;
+    Ok(vec![in alloc; multiple(a), multiple(b), multiple(c), multiple(d)]?)
+}
+
+/// The program whose bounds are all 0 to 4.
+fn program(alloc: Global) -> Result<Program, Fail> {
+    let parts = parts_with(alloc, [0; 4], [4; 4], multiples(alloc, [1, 0, 1, 0])?)?;
+    Ok(Program::new(alloc, parts)?)
+}
+
+/// The point with these entries, brick by brick.
+#[tactic(auto, using(crate::proofs::PointLaws::point_shape))]
+fn point(program: &Program, entries: Vec<i64>) -> Option<Point>
+    ensures { IfSome result (HasPointShape program.now) }
+{
+    Point::new(program, entries)
+}
+
+/// Why there is no program with these bounds and these multiples of the square.
+fn fault_of(
+    alloc: Global,
+    lower: [i64; 4],
+    upper: [i64; 4],
+    factors: [i64; 4],
+) -> Result<Option<ProgramFault>, AllocError>
+    requires low { IsBoundedRow lower }
+    requires high { IsBoundedRow upper }
+    requires factors { IsBoundedRow factors }
+{
+    let parts = parts_with(alloc, lower, upper, multiples(alloc, factors)?)?;
+    Ok(Program::new(alloc, parts).err())
+}
+
+/// What may go to other threads, and be read by several.
+fn is_shared<T: Send + Sync>(_value: &T) -> bool {
+    true
+}
+
+#[test]
+fn its_sizes_and_sides_are_those_of_the_parts(rt: HostRuntime) -> Result<(), Fail> {
+    let program = program(rt.alloc())?;
+    assert_eq!(rt; program.n(), 2);
+    assert_eq!(rt; program.t(), 2);
+    assert_eq!(rt; program.r(), 1);
+    assert_eq!(rt; program.s(), 1);
+    assert_eq!(rt; program.link().entries(), [1, 0].as_slice());
+    assert_eq!(rt; program.brick().entries(), [1, 1].as_slice());
+    assert_eq!(rt; program.right_link(1), 3);
+    assert_eq!(rt; program.right_brick(2, 1), 4);
+    assert_eq!(rt; (program.lower(2, 1), program.upper(1, 2)), (0, 4));
+    assert_eq!(rt; program.widest(), 4);
+    Ok(())
+}
+
+#[test]
+fn the_first_thing_that_a_point_breaks_is_named(rt: HostRuntime) -> Result<(), Fail> {
+    let program = program(rt.alloc())?;
+    for (entries, broken) in [
+        ([1, 3, 2, 2], None),
+        ([1, 3, 2, 1], Some(Broken::BrickRow { brick: 2, row: 1 })),
+        ([0, 4, 2, 2], Some(Broken::LinkRow { row: 1 })),
+        ([5, -1, 2, 2], Some(Broken::Above { brick: 1, col: 1 })),
+        ([1, 3, 5, -1], Some(Broken::Above { brick: 2, col: 1 })),
+        ([1, 3, 2, -1], Some(Broken::Below { brick: 2, col: 2 })),
+    ] {
+        let point = point(&program, entries.to_vec(rt.alloc())?).expect(&rt, "a point");
+        assert_eq!(rt; program.broken(&point), broken);
+    }
+    Ok(())
+}
+
+#[test]
+fn the_best_point_costs_five(rt: HostRuntime) -> Result<(), Fail> {
+    let program = program(rt.alloc())?;
+    let point = point(&program, [1, 3, 2, 2].to_vec(rt.alloc())?).expect(&rt, "a point");
+    assert!(rt; program.broken(&point).is_none());
+    assert_eq!(rt; program.cost(&point), 5);
+    assert_eq!(rt; program.n(), 2);
+    assert_eq!(rt; point.brick(2), [2, 2].as_slice());
+    assert_eq!(rt; program.r(), 1);
+    assert_eq!(rt; program.rest(&point, 1), 0);
+    assert!(rt; is_shared(&program) && is_shared(&point));
+    Ok(())
+}
+
+#[test]
+fn the_first_fault_of_the_parts_is_named(rt: HostRuntime) -> Result<(), Fail> {
+    let alloc = rt.alloc();
+    let three = vec![in alloc; multiple(1), multiple(0), multiple(1)]?;
+    let short = parts_with(alloc, [0; 4], [4; 4], three)?;
+    let shape = ProgramFault::Shape {
+        file: FileKind::Costs,
+    };
+    assert_eq!(rt; Program::new(alloc, short).err(), Some(shape));
+    let crossed = ProgramFault::CrossedBounds { brick: 2, col: 1 };
+    let faults = fault_of(alloc, [0, 0, 3, 0], [4, 4, 2, 4], [-1, 0, 1, 0])?;
+    assert_eq!(rt; faults, Some(crossed));
+    let falls = ProgramFault::Cost {
+        brick: 1,
+        col: 2,
+        fault: CostFault::NotConvex { at: 0 },
+    };
+    let faults = fault_of(alloc, [0; 4], [4; 4], [1, -1, -1, 0])?;
+    assert_eq!(rt; faults, Some(falls));
+    Ok(())
+}
+
+#[test]
+fn the_costs_may_add_up_to_the_largest_sum(rt: HostRuntime) -> Result<(), Fail> {
+    let upper = [1 << 30, 4, 4, 1 << 30];
+    let largest = fault_of(rt.alloc(), [0; 4], upper, [1 << 60, 0, 0, 0])?;
+    assert_eq!(rt; largest, None);
+    let larger = fault_of(rt.alloc(), [0; 4], upper, [1 << 60, 0, 0, 1])?;
+    assert_eq!(rt; larger, Some(ProgramFault::CostSumTooLarge));
+    Ok(())
+}
+
+#[test]
+fn a_point_has_an_entry_for_each_column(rt: HostRuntime) -> Result<(), Fail> {
+    let program = program(rt.alloc())?;
+    assert!(rt; Point::new(&program, [1, 3, 2].to_vec(rt.alloc())?).is_none());
+    let large = [1, 3, 2, 1 << 62].to_vec(rt.alloc())?;
+    assert!(rt; Point::new(&program, large).is_some());
+    let larger = [1, 3, 2, (1 << 62) + 1].to_vec(rt.alloc())?;
+    assert!(rt; Point::new(&program, larger).is_none());
+    Ok(())
+}
