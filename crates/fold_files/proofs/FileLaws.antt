@@ -1,0 +1,73 @@
+-- The files of a folder by their names, and the folder without one of them.
+use Rattle.std.proofs.Common.{◌≡◌, ℕ, ◌^◌, false, true, List, [], ◌∷◌, ◌++◌, Option, Some, None, Result, Err, cond}
+use Rattle.std.proofs.Common.{refl, ap, ◌∙◌, inl, inr, eq-eqb}
+use Rattle.std.specs.Str.{bytes_eq}
+use Rattle.std.proofs.lemmas.Bool.{cases_Bool}
+use Rattle.std.proofs.lemmas.Slice.Eq.{bytes_eq-Decides}
+use Rattle.mat_files.specs.declared.Shape.{Shape}
+use Rattle.mat_files.specs.Tokens.{and_then}
+use Rattle.mat_files.specs.MatrixText.{parsed_matrix}
+use Rattle.fold_shelf.specs.Outside.{File, file_named, without}
+use Rattle.fold_program.specs.declared.FileKind.{FileKind}
+use Rattle.fold_program.specs.Files.{suffix_of}
+use Rattle.fold_files.specs.Reading.{Stop, Absent, bytes_of, as_form, matrix_of}
+
+-- ---- names
+
+same_front : (front a b : List ℕ) → bytes_eq (front ++ a) (front ++ b) ≡ bytes_eq a b
+same_front [] a b = refl
+same_front (x ∷ front) a b = rw (eq-eqb x x refl) (same_front front a b)
+
+same_bytes : (a b : List ℕ) → bytes_eq a b ≡ true → a ≡ b
+same_bytes a b same = (bytes_eq-Decides a b).0 same
+
+-- a folder lacks the file that was taken out
+lacks_removed : (files : List File) (name : List ℕ) → file_named (without files name) name ≡ None
+lacks_removed [] name = refl
+lacks_removed (f ∷ files) name =
+    elim (cases_Bool (bytes_eq f.name name)) [
+      | inl same ↦ rw same (lacks_removed files name)
+      | inr other ↦ rw (other, other) (lacks_removed files name)
+    ]
+
+-- and has each other file
+keeps_others : (files : List File) (removed name : List ℕ) → bytes_eq removed name ≡ false →
+    file_named (without files removed) name ≡ file_named files name
+keeps_others [] removed name differ = refl
+keeps_others (f ∷ files) removed name differ =
+    elim (cases_Bool (bytes_eq f.name removed)) [
+      | inl same ↦
+          let other : bytes_eq f.name name ≡ false =
+          ap (λ (n : List ℕ). bytes_eq n name) (same_bytes f.name removed same) ∙ differ in
+          rw (same, other) (keeps_others files removed name differ)
+      | inr kept ↦ rw kept (ap (λ (found : Option (List ℕ)). cond (bytes_eq f.name name) (Some f.bytes) found)
+          (keeps_others files removed name differ))
+    ]
+
+-- ---- files by their kinds
+
+-- two kinds whose names have different ends
+abbrev pub Differ : FileKind → FileKind → Type 0
+Differ a b = bytes_eq (suffix_of a) (suffix_of b) ≡ false
+
+module _ (files : List File) (prefix : List ℕ) (kind : FileKind) (most : ℕ) where
+  -- reading stops at a file that was taken out
+  pub bytes_of_removed : bytes_of (without files (prefix ++ suffix_of kind)) prefix kind most ≡ Err (Absent kind)
+  bytes_of_removed = rw (lacks_removed files (prefix ++ suffix_of kind), bytes_of) refl
+
+  -- and at no other
+  pub bytes_of_others : (other : FileKind) → Differ other kind →
+      bytes_of (without files (prefix ++ suffix_of other)) prefix kind most ≡ bytes_of files prefix kind most
+  bytes_of_others other differ =
+      let kept : file_named (without files (prefix ++ suffix_of other)) (prefix ++ suffix_of kind) ≡ file_named files
+      (prefix ++ suffix_of kind) =
+      keeps_others files (prefix ++ suffix_of other) (prefix ++ suffix_of kind)
+      (same_front prefix (suffix_of other) (suffix_of kind) ∙ differ) in
+      rw (kept, bytes_of) refl
+
+pub matrix_of_others : (files : List File) (prefix : List ℕ) (kind : FileKind) (shape : Shape) (other : FileKind) →
+    Differ other kind
+    → matrix_of (without files (prefix ++ suffix_of other)) prefix kind shape ≡ matrix_of files prefix kind shape
+matrix_of_others files prefix kind shape other differ =
+    ap (λ (read : Result (List ℕ) Stop). and_then read (λ bytes. as_form kind (parsed_matrix shape bytes)))
+    (bytes_of_others files prefix kind (2 ^ 26) other differ)

@@ -1,0 +1,8 @@
+pub mod RepeatLaws
+pub mod ShapeLaws
+pub mod ToldLaws
+pub mod FileLaws
+pub mod CauseLaws
+pub mod PointLaws
+pub mod ProgramLaws
+pub mod KnownValues

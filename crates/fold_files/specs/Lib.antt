@@ -1,0 +1,4 @@
+pub mod CostText
+pub mod Reading
+pub mod Faults
+pub mod Causes

@@ -1,0 +1,210 @@
+//! Reading cost files.
+
+ghost use Rattle.std.specs.Prelude.{◌≡◌, ◌≤◌, ◌*◌, Ok, MatchResult, IfOk, All, IsTrue, length};
+ghost use Rattle.lattice_theory.specs.Vectors.{is_bounded};
+ghost use Rattle.convex_costs.specs.Bounds.{IsBoundedPoint, AreBounded};
+ghost use Rattle.fold_files.specs.CostText.{first_by, repeated, bounded_number, count_within, breakpoint_in, quadratic_in, points_in, cost_in, parsed_costs, IsCostFileFault};
+
+use crate::fault::CostFileFault;
+use convex_costs::{Breakpoint, Breakpoints, Cost};
+use mat_files::{Scanner, Spelled, spelled_count, spelled_number};
+use std::alloc::Global;
+
+/// The costs that a cost file holds, for `n` bricks of `t` columns, brick by brick and column by column.
+///
+/// The file has the counts `n` and `t`, and then `n·t` costs: each is either the token `q` and three numbers, the
+/// factors of the square, of the value itself and of 1; or the token `p`, a count of 1 to 1,000, and so many
+/// breakpoints, each a place and the value there. Numbers are at most `2^62` in absolute value, white space stands
+/// between tokens, and nothing follows the last cost. `Syntax` says where the first token stands that departs from
+/// this, or that the file ends early.
+pub fn parse_costs(alloc: Global, bytes: &[u8], n: u32, t: u32) -> Result<Vec<Cost>, CostFileFault>
+    requires n_from { 1 ≤ n }
+    requires n_to { n ≤ 10000 }
+    requires t_from { 1 ≤ t }
+    requires t_to { t ≤ 32 }
+    ensures parsed { MatchResult result (λ cs. parsed_costs n t bytes.now ≡ Ok cs.items) (IsCostFileFault (parsed_costs n t bytes.now)) }
+    ensures bounded { IfOk result (λ cs. All AreBounded cs.items) }
+    ensures many { IfOk result (λ cs. length cs.items ≡ n * t) }
+{
+    let end = bytes.len();
+    let mut tokens = Scanner::new(bytes);
+    count(&mut tokens, end, n, n)?;
+    count(&mut tokens, end, t, t)?;
+    let costs = costs(alloc, &mut tokens, end, n * t)?;
+    match tokens.next() {
+        None => Ok(costs),
+        Some(token) => Err(CostFileFault::Syntax { at: token.at }),
+    }
+}
+
+/// The next `count` costs.
+fn costs(
+    alloc: Global,
+    tokens: &mut Scanner<'_>,
+    end: usize,
+    count: u32,
+) -> Result<Vec<Cost>, CostFileFault>
+    ensures read { MatchResult result (λ cs. repeated (cost_in end) count tokens.old ≡ Ok (cs.items, tokens.new))
+        (IsCostFileFault (repeated (cost_in end) count tokens.old)) }
+    ensures bounded { IfOk result (λ cs. All AreBounded cs.items) }
+    ensures many { IfOk result (λ cs. length cs.items ≡ count) }
+{
+    let mut costs = Vec::new(alloc);
+    for _ in 0..count {
+        costs.push(cost(alloc, tokens, end)?)?;
+    }
+    Ok(costs)
+}
+
+/// The next cost.
+fn cost(alloc: Global, tokens: &mut Scanner<'_>, end: usize) -> Result<Cost, CostFileFault>
+    ensures read { MatchResult result (λ c. cost_in end tokens.old ≡ Ok (c, tokens.new)) (IsCostFileFault (cost_in end tokens.old)) }
+    ensures bounded { IfOk result AreBounded }
+{
+    let Some(token) = tokens.next() else {
+        return Err(CostFileFault::Syntax { at: end });
+    };
+    match token.text {
+        b"q" => quadratic(tokens, end),
+        b"p" => points(alloc, tokens, end),
+        _ => Err(CostFileFault::Syntax { at: token.at }),
+    }
+}
+
+/// The quadratic cost of the next three numbers.
+fn quadratic(tokens: &mut Scanner<'_>, end: usize) -> Result<Cost, CostFileFault>
+    ensures read { MatchResult result (λ c. quadratic_in end tokens.old ≡ Ok (c, tokens.new)) (IsCostFileFault (quadratic_in end tokens.old)) }
+    ensures bounded { IfOk result AreBounded }
+{
+    let a = number(tokens, end)?;
+    let b = number(tokens, end)?;
+    let c = number(tokens, end)?;
+    Ok(Cost::Quadratic { a, b, c })
+}
+
+/// The cost of the next count and so many breakpoints.
+fn points(alloc: Global, tokens: &mut Scanner<'_>, end: usize) -> Result<Cost, CostFileFault>
+    ensures read { MatchResult result (λ c. points_in end tokens.old ≡ Ok (c, tokens.new)) (IsCostFileFault (points_in end tokens.old)) }
+    ensures bounded { IfOk result AreBounded }
+{
+    let count = count(tokens, end, 1, 1_000)?;
+    let points = breakpoints(alloc, tokens, end, count)?;
+    Ok(Cost::Points(Breakpoints::from_vec(points)))
+}
+
+/// The next `count` breakpoints.
+fn breakpoints(
+    alloc: Global,
+    tokens: &mut Scanner<'_>,
+    end: usize,
+    count: u32,
+) -> Result<Vec<Breakpoint>, CostFileFault>
+    ensures read { MatchResult result (λ ps. repeated (breakpoint_in end) count tokens.old ≡ Ok (ps.items, tokens.new))
+        (IsCostFileFault (repeated (breakpoint_in end) count tokens.old)) }
+    ensures bounded { IfOk result (λ ps. All IsBoundedPoint ps.items) }
+    ensures many { IfOk result (λ ps. length ps.items ≡ count) }
+{
+    let mut points = Vec::new(alloc);
+    for _ in 0..count {
+        points.push(breakpoint(tokens, end)?)?;
+    }
+    Ok(points)
+}
+
+/// The breakpoint of the next two numbers.
+fn breakpoint(tokens: &mut Scanner<'_>, end: usize) -> Result<Breakpoint, CostFileFault>
+    ensures read { MatchResult result (λ p. breakpoint_in end tokens.old ≡ Ok (p, tokens.new)) (IsCostFileFault (breakpoint_in end tokens.old)) }
+    ensures bounded { IfOk result IsBoundedPoint }
+{
+    let at = number(tokens, end)?;
+    let value = number(tokens, end)?;
+    Ok(Breakpoint { at, value })
+}
+
+/// The next number, at most `2^62` in absolute value.
+fn number(tokens: &mut Scanner<'_>, end: usize) -> Result<i64, CostFileFault>
+    ensures read { MatchResult result (λ a. first_by bounded_number end tokens.old ≡ Ok (a, tokens.new))
+        (IsCostFileFault (first_by bounded_number end tokens.old)) }
+    ensures bounded { IfOk result (λ a. IsTrue (is_bounded a)) }
+{
+    let Some(token) = tokens.next() else {
+        return Err(CostFileFault::Syntax { at: end });
+    };
+    match spelled_number(token.text, 1 << 62) {
+        Spelled::Value(value) => Ok(value as i64),
+        _ => Err(CostFileFault::Syntax { at: token.at }),
+    }
+}
+
+/// The next count, in this range.
+fn count(tokens: &mut Scanner<'_>, end: usize, from: u32, to: u32) -> Result<u32, CostFileFault>
+    ensures read { MatchResult result (λ n. first_by (count_within from to) end tokens.old ≡ Ok (n, tokens.new))
+        (IsCostFileFault (first_by (count_within from to) end tokens.old)) }
+    ensures from { IfOk result (λ n. from ≤ n) }
+    ensures to { IfOk result (λ n. n ≤ to) }
+{
+    let Some(token) = tokens.next() else {
+        return Err(CostFileFault::Syntax { at: end });
+    };
+    match spelled_count(token.text, u128::from(to)) {
+        Spelled::Value(value) if i128::from(from) <= value => Ok(value as u32),
+        _ => Err(CostFileFault::Syntax { at: token.at }),
+    }
+}
+
+#[cfg(test)]
+mod tests {
+    use super::*;
+    use std::test::Fail;
+
+    fn factors(cost: &Cost) -> Option<(i64, i64, i64)> {
+        match cost {
+            Cost::Quadratic { a, b, c } => Some((*a, *b, *c)),
+            Cost::Points(_) => None,
+        }
+    }
+
+    #[test]
+    fn reads_the_costs_brick_by_brick(rt: HostRuntime) -> Result<(), Fail> {
+        let bytes = b"2 1\nq 1 -2 3\nq 0 0 +4611686018427387904\n";
+        let costs = parse_costs(rt.alloc(), bytes, 2, 1)?;
+        assert_eq!(rt; costs.len(), 2);
+        assert_eq!(rt; factors(&costs[0]), Some((1, -2, 3)));
+        assert_eq!(rt; factors(&costs[1]), Some((0, 0, 1 << 62)));
+        Ok(())
+    }
+
+    #[test]
+    fn reads_breakpoints(rt: HostRuntime) -> Result<(), Fail> {
+        let costs = parse_costs(rt.alloc(), b"1 1 p 2 0 0 4 8", 1, 1)?;
+        assert_eq!(rt; costs.len(), 1);
+        let expected = [
+            Breakpoint { at: 0, value: 0 },
+            Breakpoint { at: 4, value: 8 },
+        ];
+        match &costs[0] {
+            Cost::Points(points) => assert_eq!(rt; points.as_slice(), expected.as_slice()),
+            Cost::Quadratic { .. } => assert!(rt; false, "the cost has breakpoints"),
+        }
+        Ok(())
+    }
+
+    #[test]
+    fn names_the_first_token_that_is_refused(rt: HostRuntime) {
+        let cases = [
+            (b"".as_slice(), 0),
+            (b"2 1 q 1 2 3".as_slice(), 0),
+            (b"1 2 q 1 2 3".as_slice(), 2),
+            (b"1 1 Q 1 2 3".as_slice(), 4),
+            (b"1 1 p 0".as_slice(), 6),
+            (b"1 1 p 1001 0 0".as_slice(), 6),
+            (b"1 1 q 4611686018427387905 0 0".as_slice(), 6),
+            (b"1 1 q 1 2".as_slice(), 9),
+            (b"1 1 q 1 2 3 4".as_slice(), 12),
+        ];
+        for (bytes, at) in cases {
+            let fault = parse_costs(rt.alloc(), bytes, 1, 1).err();
+            assert_eq!(rt; fault, Some(CostFileFault::Syntax { at }));
+        }
+    }
+}
