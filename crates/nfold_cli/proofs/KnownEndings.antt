@@ -1,0 +1,55 @@
+-- The ending of a run at files worked by hand: a program of two bricks, and points of it.
+use Rattle.std.specs.Prelude.{◌≡◌, ℕ, List, [], ◌∷◌, codes, refl}
+use Rattle.std.specs.Fmt.{digits}
+use Rattle.fold_shelf.specs.Outside.{File, without}
+use Rattle.nfold_cli.specs.declared.status.Status.TheVariants as status
+use Rattle.nfold_cli.specs.Texts.{usage_text}
+use Rattle.nfold_cli.specs.Endings.{ending, point_ending, IsEnding}
+
+abbrev file_of : List ℕ → List ℕ → File
+file_of name bytes = record { name = name; bytes = bytes }
+
+abbrev files_with : List ℕ → List ℕ → List File
+files_with upper point =
+    file_of (codes "t.link.mat") (codes "1 2 1 0")
+    ∷ file_of (codes "t.brick.mat") (codes "1 2 1 1")
+    ∷ file_of (codes "t.lb") (codes "2 2 0 0 0 0")
+    ∷ file_of (codes "t.ub") upper
+    ∷ file_of (codes "t.rhs") (codes "1 3 3 4 4")
+    ∷ file_of (codes "t.cost") (codes "2 2 q 1 0 0 q 0 0 0 q 1 0 0 q 0 0 0")
+    ∷ file_of (codes "t.pt") point
+    ∷ []
+
+abbrev files_at : List ℕ → List File
+files_at = files_with (codes "2 2 4 4 4 4")
+
+pub feasible : point_ending (files_at (codes "2 2 1 3 2 2")) (codes "t") ≡ ending status.Done (codes "feasible\ncost 5\n")
+unfolding digits
+feasible = refl
+
+pub brick_row : point_ending (files_at (codes "2 2 1 3 2 1")) (codes "t") ≡ ending status.No (codes "broken brick 2 row 1\n")
+unfolding digits
+brick_row = refl
+
+pub link_row : point_ending (files_at (codes "2 2 0 4 2 2")) (codes "t") ≡ ending status.No (codes "broken link row 1\n")
+unfolding digits
+link_row = refl
+
+pub above : point_ending (files_at (codes "2 2 5 -1 2 2")) (codes "t") ≡ ending status.No (codes "broken above brick 1 column 1\n")
+unfolding digits
+above = refl
+
+pub crossed : point_ending (files_with (codes "2 2 4 4 -1 4") []) (codes "t") ≡ ending status.Input (codes "input: t.ub: crossed at brick 2 column 1\n")
+unfolding digits
+crossed = refl
+
+pub no_costs : point_ending (without (files_at []) (codes "t.cost")) (codes "t") ≡ ending status.ReadFault (codes "read: t.cost\n")
+no_costs = refl
+
+pub empty_point : point_ending (files_at []) (codes "t") ≡ ending status.Input (codes "input: t.pt: ends-early at 0\n")
+unfolding digits
+empty_point = refl
+
+-- words that are no form end in the usage, whatever the files are
+pub no_words : (files : List File) → IsEnding [] files (ending status.Usage usage_text)
+no_words files = refl

@@ -1,0 +1,103 @@
+-- The definitions at values worked by hand.
+use Rattle.std.specs.Prelude.{◌≡◌, List, [], ◌∷◌, ◌++◌, pos, neg_ℤ, Some, None, codes, replicate, refl}
+use Rattle.std.specs.Fmt.{digits}
+use Rattle.fold_theory.specs.declared.Broken.TheVariants.{Below, Above, BrickRow, LinkRow}
+use Rattle.mat_files.specs.declared.fault.MatFault.TheVariants as mat
+use Rattle.convex_costs.specs.declared.fault.CostFault.TheVariants as cost
+use Rattle.nfold_cli.specs.Words.{Word, PointForm, form_of}
+use Rattle.nfold_cli.specs.Texts.{point_text, at_byte, at_column, mat_fault_text, cost_fault_text, input_text, read_text}
+
+-- ---- words
+
+abbrev point_and : List Word → List Word
+point_and rest = codes "point" ∷ rest
+
+pub point_with_a_prefix : form_of (point_and (codes "a_-./Z9" ∷ [])) ≡ Some (PointForm (codes "a_-./Z9"))
+point_with_a_prefix = refl
+
+pub no_words : form_of [] ≡ None
+no_words = refl
+
+pub no_prefix : form_of (point_and []) ≡ None
+no_prefix = refl
+
+pub empty_prefix : form_of (point_and ([] ∷ [])) ≡ None
+empty_prefix = refl
+
+pub dash_first : form_of (point_and (codes "-t" ∷ [])) ≡ None
+dash_first = refl
+
+pub two_prefixes : form_of (point_and (codes "t" ∷ codes "t" ∷ [])) ≡ None
+two_prefixes = refl
+
+pub no_form_yet : form_of (codes "solve" ∷ codes "t" ∷ []) ≡ None
+no_form_yet = refl
+
+pub another_case : form_of (codes "Point" ∷ codes "t" ∷ []) ≡ None
+another_case = refl
+
+pub two_hundred_bytes : form_of (point_and (replicate 200 116 ∷ [])) ≡ Some (PointForm (replicate 200 116))
+two_hundred_bytes = refl
+
+pub one_byte_too_many : form_of (point_and (replicate 201 116 ∷ [])) ≡ None
+one_byte_too_many = refl
+
+pub space_in_a_prefix : form_of (point_and (codes "t t" ∷ [])) ≡ None
+space_in_a_prefix = refl
+
+pub past_ascii : form_of (point_and ((116 ∷ 195 ∷ 164 ∷ []) ∷ [])) ≡ None
+past_ascii = refl
+
+-- ---- texts
+
+pub feasible : point_text None (neg_ℤ (pos 12)) ≡ codes "feasible\ncost -12\n"
+unfolding digits
+feasible = refl
+
+pub below : point_text (Some (Below 1 20)) (pos 0) ≡ codes "broken below brick 1 column 20\n"
+unfolding digits
+below = refl
+
+pub above : point_text (Some (Above 3 2)) (pos 0) ≡ codes "broken above brick 3 column 2\n"
+unfolding digits
+above = refl
+
+pub brick_row : point_text (Some (BrickRow 2 1)) (pos 0) ≡ codes "broken brick 2 row 1\n"
+unfolding digits
+brick_row = refl
+
+pub link_row : point_text (Some (LinkRow 1)) (pos 0) ≡ codes "broken link row 1\n"
+unfolding digits
+link_row = refl
+
+pub bound_missing : input_text (codes "t.lb") (mat_fault_text (mat.NoBound 6)) ≡ codes "input: t.lb: no-bound at 6\n"
+unfolding digits
+bound_missing = refl
+
+pub mat_faults : mat_fault_text (mat.NotNumber 0) ++ mat_fault_text (mat.TooBig 1) ++ mat_fault_text (mat.EndsEarly 2) ++ mat_fault_text (mat.Extra 3) ++ mat_fault_text (mat.Shape 4 (pos 9) 0 8) ++ mat_fault_text mat.Memory
+    ≡ codes "not-number at 0too-big at 1ends-early at 2extra at 3shape at 4"
+unfolding digits
+mat_faults = refl
+
+pub slope_not_whole : input_text (codes "t.cost") (cost_fault_text 1 1 (cost.SlopeNotWhole 2)) ≡ codes "input: t.cost: slope-not-whole at brick 1 column 1 point 2\n"
+unfolding digits
+slope_not_whole = refl
+
+pub cost_faults : cost_fault_text 1 2 (cost.NotRising 3) ++ cost_fault_text 4 5 (cost.NotConvex 0) ++ cost_fault_text 6 7 cost.NotCovered ++ cost_fault_text 8 9 cost.TooLarge
+    ≡ codes "not-rising at brick 1 column 2 point 3not-convex at brick 4 column 5 point 0not-covered at brick 6 column 7too-large at brick 8 column 9"
+unfolding digits
+cost_faults = refl
+
+pub crossed_bounds : input_text (codes "t.ub") (at_column (codes "crossed") 2 1) ≡ codes "input: t.ub: crossed at brick 2 column 1\n"
+unfolding digits
+crossed_bounds = refl
+
+pub cost_syntax : input_text (codes "t.cost") (at_byte (codes "syntax") 17) ≡ codes "input: t.cost: syntax at 17\n"
+unfolding digits
+cost_syntax = refl
+
+pub too_long : input_text (codes "t.rhs") (codes "too-long") ≡ codes "input: t.rhs: too-long\n"
+too_long = refl
+
+pub unreadable : read_text (codes "t.pt") ≡ codes "read: t.pt\n"
+unreadable = refl

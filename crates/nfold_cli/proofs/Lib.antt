@@ -1,0 +1,6 @@
+pub mod PrefixLaws
+mod ReadLaws
+mod AnswerLaws
+mod SayLaws
+mod KnownValues
+mod KnownEndings

@@ -1,0 +1,5 @@
+pub mod Words
+pub mod Texts
+pub mod Endings
+pub mod Running
+pub mod Answers

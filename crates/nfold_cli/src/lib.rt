@@ -1,0 +1,16 @@
+//! The top call of the program: its words, its texts and what it answers.
+#![tactic(auto)]
+
+mod answering;
+mod running;
+mod status;
+mod texts;
+mod words;
+
+pub use running::run;
+pub use status::Status;
+pub use texts::{
+    at_byte, at_column, cost_fault_text, input_text, mat_fault_text, memory_text, point_text,
+    read_text, usage_text, write_text,
+};
+pub use words::{Form, form_of};
