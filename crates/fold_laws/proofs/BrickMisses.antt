@@ -1,0 +1,161 @@
+-- A certificate on one brick that breaks no rule shows what it claims.
+use Rattle.std.proofs.Common.{◌≡◌, ℕ, zero, suc, ◌+◌, ◌-◌, ◌<◌, ◌≤◌, nat_eq, nat_lt, ◌-ℤ◌, Bool, true, false, ◌&&◌, cond, List, [], ◌∷◌, length, Option, Some, None, slice_get, refl, ap, arith, sym, ◌∙◌, subst}
+use Rattle.std.specs.List.{AllZip, AllByRecursion}
+use Rattle.std.proofs.lemmas.Int.{ints}
+use Rattle.std.proofs.lemmas.Bool.Decides.{nat_tests}
+use Rattle.std.proofs.lemmas.Option.{slice_get_within, get_or_from_slice_get}
+use Rattle.std.proofs.lemmas.List.Elements.{All-contains}
+use Rattle.fold_theory.specs.declared.Rule.{Rule}
+use Rattle.fold_theory.specs.declared.Rule.TheVariants.{B1}
+use Rattle.fold_theory.specs.declared.Claim.{Claim}
+use Rattle.fold_theory.specs.declared.Claim.TheVariants as claim
+use Rattle.fold_theory.specs.declared.Verdict.TheVariants.{InfeasibleBrick}
+use Rattle.lattice_theory.specs.Vectors.{Vector, norm1, sub}
+use Rattle.lattice_theory.specs.Matrices.{product, has_shape}
+use Rattle.lattice_laws.proofs.Tests.{and_true}
+use Rattle.lattice_laws.proofs.Conformal.{norm1-cons}
+use Rattle.fold_theory.specs.Programs.{Program, Brick, Bricks, IsBrick, IsProgram, IsWithin, is_within, brick_residual}
+use Rattle.fold_theory.specs.Certificates.{Certificate}
+use Rattle.fold_theory.specs.Checker.{brick_rules, first_failing, claimed_verdict, Accept}
+use Rattle.fold_theory.specs.Verdicts.{IsInfeasible, Holds}
+use Rattle.fold_laws.proofs.Bounds.{is_within_true}
+use Rattle.fold_laws.proofs.BrickSteps.{IsStuck, least_residual}
+
+-- ---- the rules
+
+-- where no test is the first to fail, each passes
+pub all_pass : (tests : List (Rule × Bool)) → first_failing tests ≡ None → AllByRecursion (λ t. t.1 ≡ true) tests
+all_pass [] h = tt
+all_pass (test ∷ tests) h = by test.1 h (λ k. all_pass tests k)
+  where
+    others : Type 0
+    others = AllByRecursion (λ t. t.1 ≡ true) tests
+
+    by : (t : Bool) → cond t (first_failing tests) (Some test.0) ≡ None → (first_failing tests ≡ None → others) →
+        (t ≡ true) × others
+    by true k rest = (refl, rest k)
+    by false k rest = absurd (cc)
+
+-- the vector is stuck, and misses the rows
+record IsStuckAbove (p : Program) (b : Brick) (basis : List Vector) (x : Vector) : Type 0 where
+  stuck : IsStuck p b basis x
+  above : 0 < brick_residual p b x
+
+-- what the rules for a brick say
+rules_say : (p : Program) (c : Certificate) (b : Brick) (x : Vector) →
+    IsProgram p → IsBrick p.link.cols (length p.brick.rows) b → first_failing (brick_rules p c b x) ≡ None →
+    IsStuckAbove p b c.bricks.rows x
+rules_say p c b x program brick h =
+    let point = has_shape 1 p.brick.cols c.point in
+    let members = has_shape (length c.bricks.rows) (p.brick.cols + length p.brick.rows) c.bricks in
+    let pass = all_pass (brick_rules p c b x) h in
+    record {
+      stuck = record {
+        columns = brick.lower_size ∙ sym program.brick_shape.width;
+        right = brick.right_size;
+        within = is_within_true b x (and_true (point && members) (is_within b x) pass.0).1;
+        complete = pass.1.0;
+        still = pass.1.1.0;
+      };
+      above = lt_true 0 (brick_residual p b x) pass.1.1.1.0;
+    }
+  where
+    lt_true : (m n : ℕ) → nat_lt m n ≡ true → m < n
+    lt_true m n k = grind (arith, nat_tests)
+
+-- ---- no point is feasible
+
+-- what a feasible point has at this brick
+record Met (p : Program) (b : Brick) : Type 0 where
+  vector : Vector
+  within : IsWithin b vector
+  meets : product p.brick vector ≡ b.right
+
+-- by the place of the brick
+met_at : (p : Program) (bs : List Brick) (x : Bricks) (place : ℕ) (b : Brick) → slice_get bs place ≡ Some b →
+    AllZip IsWithin bs x → AllZip (λ b v. product p.brick v ≡ b.right) bs x → Met p b
+met_at p [] x place b there within meets = absurd (cc)
+met_at p (a ∷ bs) [] place b there within meets = absurd within
+met_at p (a ∷ bs) (v ∷ x) zero b there within meets =
+    let same : a ≡ b = cc in subst (Met p) same (record { vector = v; within = within.0; meets = meets.0 })
+met_at p (a ∷ bs) (v ∷ x) (suc place) b there within meets = met_at p bs x place b there within.1 meets.1
+
+-- nothing is missed where the rows are met
+pub no_rest : (v : Vector) → norm1 (sub v v) ≡ 0
+no_rest [] = refl
+no_rest (a ∷ v) = omega (arith, ints, norm1-cons (a -ℤ a) (sub v v), no_rest v)
+
+-- where each vector within the brick's bounds misses its rows, no point is feasible
+pub infeasible : (p : Program) (place : ℕ) (b : Brick) (residual : ℕ) → slice_get p.bricks place ≡ Some b →
+    0 < residual → ((v : Vector) → IsWithin b v → residual ≤ brick_residual p b v) → IsInfeasible p
+infeasible p place b residual there above least x feasible =
+    let m = met_at p p.bricks x place b there feasible.within feasible.brick_rows in
+    let none : brick_residual p b m.vector ≡ 0 = ap (λ w. norm1 (sub b.right w)) m.meets ∙ no_rest b.right in
+    omega (arith, none, above, least m.vector m.within)
+
+-- ---- the verdict
+
+-- a brick of a program is a brick
+pub brick_at : (p : Program) (place : ℕ) (b : Brick) → IsProgram p → slice_get p.bricks place ≡ Some b →
+    IsBrick p.link.cols (length p.brick.rows) b
+brick_at p place b program there =
+    All-contains (IsBrick p.link.cols (length p.brick.rows)) p.bricks b program.each_brick
+    (place, slice_get_within p.bricks place b there, get_or_from_slice_get p.bricks place b b there)
+
+-- the verdict of the brick at a place, where the rules hold
+miss_holds : (p : Program) (c : Certificate) (number place : ℕ) (b : Brick) (x : Vector) →
+    IsProgram p → number ≡ place + 1 → slice_get p.bricks place ≡ Some b → first_failing (brick_rules p c b x) ≡ None →
+    Holds p (InfeasibleBrick number (brick_residual p b x))
+miss_holds p c number place b x program numbered there h =
+    let s = rules_say p c b x program (brick_at p place b program there) h in
+    let least = least_residual p b c.bricks.rows x s.stuck in (
+      record {
+        above = s.above;
+        brick = b;
+        place = place;
+        numbered = numbered;
+        there = there;
+        reached = (x, s.stuck.within, refl);
+        least = least;
+      },
+      infeasible p place b (brick_residual p b x) there s.above least,
+    )
+
+-- the certificate with this claim
+abbrev claiming : Certificate → Claim → Certificate
+claiming c k = record { claim = k; point = c.point; bricks = c.bricks; fold = c.fold }
+
+-- by the number, the brick that has it, and the rows of the point
+yes_holds : (p : Program) (c : Certificate) (i : ℕ) → IsProgram p → Accept p (claiming c (claim.InfeasibleBrick i)) →
+    Holds p (claimed_verdict p (claiming c (claim.InfeasibleBrick i)))
+yes_holds p c i program h = shown (nat_eq i 0) refl (slice_get p.bricks (i - 1)) refl c.point.rows h
+  where
+    broken_at : Brick → List Vector → Option Rule
+    broken_at b [] = Some B1
+    broken_at b (x ∷ rest) = first_failing (brick_rules p c b x)
+
+    broken : List Vector → Option Brick → Option Rule
+    broken rows None = Some B1
+    broken rows (Some b) = broken_at b rows
+
+    residual : Option Brick → List Vector → ℕ
+    residual None rows = 0
+    residual (Some b) [] = 0
+    residual (Some b) (x ∷ rest) = brick_residual p b x
+
+    behind : (n : ℕ) → nat_eq n 0 ≡ false → n ≡ n - 1 + 1
+    behind n k = grind (arith, nat_tests)
+
+    shown : (t : Bool) → nat_eq i 0 ≡ t → (o : Option Brick) → slice_get p.bricks (i - 1) ≡ o → (rows : List Vector) →
+        broken rows (cond t None o) ≡ None → Holds p (InfeasibleBrick i (residual o rows))
+    shown true none o there rows k = absurd (cc)
+    shown false some None there rows k = absurd (cc)
+    shown false some (Some b) there [] k = absurd (cc)
+    shown false some (Some b) there (x ∷ rest) k = miss_holds p c i (i - 1) b x program (behind i some) there k
+
+-- what a certificate claims of a brick holds where it breaks no rule
+pub accepted_holds : (p : Program) (c : Certificate) (i : ℕ) →
+    IsProgram p → c.claim ≡ claim.InfeasibleBrick i → Accept p c → Holds p (claimed_verdict p c)
+accepted_holds p c i program claims accepted =
+    subst (λ k. Accept p (claiming c k) → Holds p (claimed_verdict p (claiming c k))) (sym claims)
+    (yes_holds p c i program) accepted

@@ -1,0 +1,156 @@
+-- Sums of signed members of a list. Where two terms clash, and the sum of the two is one of lighter terms, the terms
+-- can be changed for lighter ones with the same sum, until none clash; then each term is below the sum.
+use Rattle.std.proofs.Common.{◌≡◌, ℕ, zero, suc, ◌+◌, ◌<◌, Bool, true, false, List, [], ◌∷◌, length, refl, ap, arith, sym, ◌∙◌, ◌⊎◌, inl, inr, subst}
+use Rattle.std.specs.List.{AllByRecursion}
+use Rattle.lattice_theory.specs.Vectors.{Vector, ◌⊑◌, norm1, add}
+use Rattle.lattice_laws.proofs.Conformal.{agree, agree_comm, conforms_trans, below_sum, add_comm_v}
+use Rattle.fold_laws.proofs.Agreement.{add_assoc_v, add_swap, agree_sum, agree_zeros, norm_clash}
+use Rattle.fold_laws.proofs.Terms.{sum_of, weight, weight_append, IsTerm, AreTerms, Spanned, Lightly, ConformalSum, spanned_add}
+
+-- ---- terms that agree
+
+-- e agrees with each of the vectors
+abbrev pub AgreesWithAll : Vector → List Vector → Type 0
+AgreesWithAll e es = AllByRecursion (λ f. agree e f ≡ true) es
+
+-- every two of the terms agree
+abbrev pub AreAgreeing : List Vector → Type 0
+AreAgreeing [] = Unit {0}
+AreAgreeing (e ∷ es) = AgreesWithAll e es × AreAgreeing es
+
+pub agree_all : (n : ℕ) (e : Vector) (es : List Vector) → length e ≡ n → AgreesWithAll e es → agree e (sum_of n es) ≡ true
+agree_all n e [] size all = agree_zeros e n size
+agree_all n e (f ∷ es) size all = agree_sum e f (sum_of n es) all.0 (agree_all n e es size all.1)
+
+pub all_below : (u v : Vector) (es : List Vector) → u ⊑ v → AllByRecursion (λ f. f ⊑ u) es → AllByRecursion (λ f. f ⊑ v) es
+all_below u v [] h all = tt
+all_below u v (e ∷ es) h all = (conforms_trans e u v all.0 h, all_below u v es h all.1)
+
+-- terms that agree are below their sum
+agreeing_below : (n : ℕ) (basis es : List Vector) → AreTerms n basis es → AreAgreeing es →
+    AllByRecursion (λ f. f ⊑ sum_of n es) es
+agreeing_below n basis [] s a = tt
+agreeing_below n basis (e ∷ es) s a =
+    let sum = sum_of n es in
+    let agrees : agree e sum ≡ true = agree_all n e es s.0.0 a.0 in
+    let up : sum ⊑ add e sum = subst (λ v. sum ⊑ v) (add_comm_v sum e) (below_sum sum e (agree_comm sum e ∙ agrees)) in
+    (below_sum e sum agrees, all_below sum (add e sum) es up (agreeing_below n basis es s.1 a.1))
+
+-- ---- terms that clash
+
+-- a term that clashes with e, and the others
+record Partner (n : ℕ) (basis : List Vector) (e : Vector) (es : List Vector) : Type 0 where
+  term : Vector
+  others : List Vector
+  signed : IsTerm n basis term
+  rest : AreTerms n basis others
+  clash : agree e term ≡ false
+  sum : sum_of n es ≡ add term (sum_of n others)
+  weighs : weight es ≡ norm1 term + weight others
+
+-- two terms that clash, and the others
+record Clash (n : ℕ) (basis es : List Vector) : Type 0 where
+  one : Vector
+  two : Vector
+  others : List Vector
+  signed_one : IsTerm n basis one
+  signed_two : IsTerm n basis two
+  rest : AreTerms n basis others
+  clash : agree one two ≡ false
+  sum : sum_of n es ≡ add one (add two (sum_of n others))
+  weighs : weight es ≡ norm1 one + (norm1 two + weight others)
+
+partner_of : (n : ℕ) (basis : List Vector) (e : Vector) (es : List Vector) → AreTerms n basis es →
+    AgreesWithAll e es ⊎ Partner n basis e es
+partner_of n basis e [] s = inl tt
+partner_of n basis e (f ∷ es) s = by (agree e f) refl (partner_of n basis e es s.1)
+  where
+    by : (t : Bool) → agree e f ≡ t → AgreesWithAll e es ⊎ Partner n basis e es →
+        AgreesWithAll e (f ∷ es) ⊎ Partner n basis e (f ∷ es)
+    by false p r = inr (record {
+      term = f;
+      others = es;
+      signed = s.0;
+      rest = s.1;
+      clash = p;
+      sum = refl;
+      weighs = refl;
+    })
+    by true p (inl all) = inl (p, all)
+    by true p (inr q) = inr (record {
+      term = q.term;
+      others = f ∷ q.others;
+      signed = q.signed;
+      rest = (s.0, q.rest);
+      clash = q.clash;
+      sum = ap (add f) q.sum ∙ add_swap f q.term (sum_of n q.others);
+      weighs = omega (arith, q.weighs);
+    })
+
+clash_of : (n : ℕ) (basis es : List Vector) → AreTerms n basis es → AreAgreeing es ⊎ Clash n basis es
+clash_of n basis [] s = inl tt
+clash_of n basis (e ∷ es) s = by (partner_of n basis e es s.1) (clash_of n basis es s.1)
+  where
+    by : AgreesWithAll e es ⊎ Partner n basis e es → AreAgreeing es ⊎ Clash n basis es →
+        AreAgreeing (e ∷ es) ⊎ Clash n basis (e ∷ es)
+    by (inr q) r = inr (record {
+      one = e;
+      two = q.term;
+      others = q.others;
+      signed_one = s.0;
+      signed_two = q.signed;
+      rest = q.rest;
+      clash = q.clash;
+      sum = ap (add e) q.sum;
+      weighs = omega (arith, q.weighs);
+    })
+    by (inl all) (inl pairs) = inl (all, pairs)
+    by (inl all) (inr c) = inr (record {
+      one = c.one;
+      two = c.two;
+      others = e ∷ c.others;
+      signed_one = c.signed_one;
+      signed_two = c.signed_two;
+      rest = (s.0, c.rest);
+      clash = c.clash;
+      sum =
+          ap (add e) c.sum
+          ∙ add_swap e c.one (add c.two (sum_of n c.others))
+          ∙ ap (add c.one) (add_swap e c.two (sum_of n c.others));
+      weighs = omega (arith, c.weighs);
+    })
+
+-- ---- the exchange
+
+-- the sum of each two terms is a sum of terms that weigh no more
+abbrev pub PairsAreLight : ℕ → List Vector → Type 0
+PairsAreLight n basis = (a b : Vector) → IsTerm n basis a → IsTerm n basis b → Lightly n basis (add a b)
+
+-- lighter terms with the same sum
+exchanged : (n : ℕ) (basis es : List Vector) (c : Clash n basis es) → Lightly n basis (add c.one c.two) →
+    (s : Spanned n basis (sum_of n es)) × (weight s.terms < weight es)
+exchanged n basis es c (two, light) =
+    let others : Spanned n basis (sum_of n c.others) = record { terms = c.others; signed = c.rest; sum = refl } in
+    let all = spanned_add n basis (add c.one c.two) (sum_of n c.others) two others in
+    let same : add (add c.one c.two) (sum_of n c.others) ≡ sum_of n es =
+    sym (add_assoc_v c.one c.two (sum_of n c.others)) ∙ sym c.sum in
+    let lighter = norm_clash c.one c.two (c.signed_one.0 ∙ sym c.signed_two.0) c.clash in (
+      record { terms = all.terms; signed = all.signed; sum = all.sum ∙ same },
+      omega (arith, weight_append two.terms c.others, light, c.weighs, lighter),
+    )
+
+-- Pottier's argument: where pairs are light, whatever terms add up to is a conformal sum
+pub conformal_sum : (n : ℕ) (basis : List Vector) → PairsAreLight n basis → (z : Vector) → Spanned n basis z →
+    ConformalSum n basis z
+conformal_sum n basis pairs z s =
+    subst (ConformalSum n basis) s.sum (settled (suc (weight s.terms)) s.terms s.signed (omega arith))
+  where
+    settled : (bound : ℕ) (es : List Vector) → AreTerms n basis es → weight es < bound →
+        ConformalSum n basis (sum_of n es)
+    settled zero es t light = absurd (omega arith)
+    settled (suc bound) es t light = elim (clash_of n basis es t) [
+      | inl all ↦ (record { terms = es; signed = t; sum = refl }, agreeing_below n basis es t all)
+      | inr c ↦
+          let r = exchanged n basis es c (pairs c.one c.two c.signed_one c.signed_two) in
+          subst (ConformalSum n basis) r.0.sum (settled bound r.0.terms r.0.signed (omega (arith, r.1, light)))
+    ]

@@ -1,0 +1,12 @@
+pub mod Agreement
+pub mod Multiples
+pub mod Terms
+pub mod ConformalSums
+pub mod Reductions
+pub mod CompleteLists
+pub mod Parts
+pub mod Residuals
+pub mod Bounds
+pub mod BrickSteps
+pub mod BrickMisses
+pub mod KnownValues

@@ -1,0 +1,88 @@
+-- Parts of a vector by a list that is complete for a lattice: vectors that are not 0 and whose elements are conformally
+-- below that of the vector.
+use Rattle.std.proofs.Common.{◌≡◌, ℕ, zero, suc, true, false, List, [], ◌∷◌, length, take, drop, refl, ap, arith, sym, ◌∙◌, Contains, ◌⊎◌, inl, inr, subst}
+use Rattle.std.proofs.lemmas.List.{take_at, drop_at}
+use Rattle.std.proofs.lemmas.List.Elements.{All-contains}
+use Rattle.lattice_theory.specs.Vectors.{Vector, ◌⊑◌, conforms, is_between, is_zero, opposite}
+use Rattle.lattice_theory.specs.Matrices.{Matrix, product, element}
+use Rattle.lattice_theory.specs.Lattices.{InLattice, is_complete_for, first_parts}
+use Rattle.lattice_laws.proofs.Tests.{and_true}
+use Rattle.lattice_laws.proofs.Members.{contains_cases, contains_head, contains_tail}
+use Rattle.lattice_laws.proofs.Conformal.{conforms-take, opposite-opposite, opposite_nonzero, opposite-take, nonzero_by_take}
+use Rattle.lattice_laws.proofs.Elements.{closed_opposite, element_in}
+use Rattle.lattice_laws.proofs.SlackBases.{IsSigned}
+use Rattle.fold_laws.specs.Elements.{IsNonzeroElement}
+use Rattle.fold_laws.proofs.CompleteLists.{complete_covers, complete_elements}
+
+-- the entries behind the first ones, of a vector below
+pub conforms-drop : (n : ℕ) (u v : Vector) → u ⊑ v → drop n u ⊑ drop n v
+conforms-drop zero u v h = h
+conforms-drop (suc n) [] [] h = refl
+conforms-drop (suc n) [] (b ∷ v) h = absurd (cc)
+conforms-drop (suc n) (a ∷ u) [] h = absurd (cc)
+conforms-drop (suc n) (a ∷ u) (b ∷ v) h = conforms-drop n u v (and_true (is_between a b) (conforms u v) h).1
+
+-- a vector that is not 0 and whose element is below that of d; it is the first part of a member, as it is or with its
+-- signs turned
+pub record Part (m : Matrix) (basis : List Vector) (d : Vector) : Type 0 where
+  pub vector : Vector
+  pub nonzero : is_zero vector ≡ false
+  pub below : vector ⊑ d
+  pub image : product m vector ⊑ product m d
+  pub listed : Contains (first_parts m.cols basis) vector ⊎ Contains (first_parts m.cols basis) (opposite vector)
+
+-- the opposite of such an element is one
+pub nonzero_turned : (m : Matrix) (z : Vector) → IsNonzeroElement m (opposite z) → IsNonzeroElement m z
+nonzero_turned m z h = record {
+  member = subst (InLattice m) (opposite-opposite z) (closed_opposite m (opposite z) h.member);
+  nonzero =
+      ap is_zero (ap (take m.cols) (sym (opposite-opposite z)) ∙ sym (opposite-take m.cols (opposite z)))
+      ∙ opposite_nonzero (take m.cols (opposite z)) h.nonzero;
+}
+
+-- the first part of a member is among the first parts
+pub first_listed : (n : ℕ) (basis : List Vector) (e : Vector) → Contains basis e →
+    Contains (first_parts n basis) (take n e)
+first_listed n [] e (k, low, f) = absurd (omega arith)
+first_listed n (z ∷ basis) e c = elim (contains_cases z basis e c) [
+  | inl f ↦
+      subst (λ w. Contains (first_parts n (z ∷ basis)) (take n w)) f (contains_head (take n z) (first_parts n basis))
+  | inr d ↦ contains_tail (take n z) (first_parts n basis) (take n e) (first_listed n basis e d)
+]
+
+-- a complete list has a part of each vector that is not 0
+pub part_of_complete : (m : Matrix) (basis : List Vector) → is_complete_for m basis ≡ true →
+    (d : Vector) → length d ≡ m.cols → is_zero d ≡ false → Part m basis d
+part_of_complete m basis h d size nonzero =
+    let whole : is_zero (element m d) ≡ false = nonzero_by_take m.cols (element m d) (ap is_zero first ∙ nonzero) in
+    let r = complete_covers m basis h (element m d) (element_in m d size) whole in
+    by r.0 r.1 r.2
+  where
+    first : take m.cols (element m d) ≡ d
+    first = take_at d (product m d) m.cols size
+
+    parts : List Vector
+    parts = first_parts m.cols basis
+
+    member : (e : Vector) → Contains basis e → IsNonzeroElement m e
+    member e c = All-contains (IsNonzeroElement m) basis e (complete_elements m basis h) c
+
+    found : (e : Vector) → IsNonzeroElement m e → e ⊑ element m d →
+        Contains parts (take m.cols e) ⊎ Contains parts (opposite (take m.cols e)) → Part m basis d
+    found e is below listed = record {
+      vector = take m.cols e;
+      nonzero = is.nonzero;
+      below = subst (λ w. take m.cols e ⊑ w) first (conforms-take m.cols e (element m d) below);
+      image =
+          subst (λ w. w ⊑ product m d) is.member.image
+          (subst (λ w. drop m.cols e ⊑ w) (drop_at d (product m d) m.cols size)
+          (conforms-drop m.cols e (element m d) below));
+      listed = listed;
+    }
+
+    by : (e : Vector) → IsSigned basis e → e ⊑ element m d → Part m basis d
+    by e (inl c) below = found e (member e c) below (inl (first_listed m.cols basis e c))
+    by e (inr c) below =
+        let turned = first_listed m.cols basis (opposite e) c in
+        found e (nonzero_turned m e (member (opposite e) c)) below
+        (inr (subst (Contains parts) (sym (opposite-take m.cols e)) turned))

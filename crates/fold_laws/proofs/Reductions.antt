@@ -1,0 +1,122 @@
+-- Reductions: what reduces to 0 is a sum of signed members that weigh no more, and Pottier's criterion on a list makes
+-- the sum of each two signed members such a sum.
+use Rattle.std.proofs.Common.{◌≡◌, ℕ, zero, suc, ◌+◌, ◌≤◌, pos, Bool, true, false, cond, Option, Some, None, List, [], ◌∷◌, length, refl, ap, arith, sym, ◌∙◌, Contains, inl, inr, subst}
+use Rattle.std.specs.List.{AllByRecursion}
+use Rattle.lattice_theory.specs.Vectors.{Vector, ◌⊑◌, conforms, is_zero, norm1, add, sub, scale, opposite, zeros}
+use Rattle.lattice_theory.specs.Lattices.{first_below, reduced_within, reduces_to_zero, greatest_multiple}
+use Rattle.lattice_laws.proofs.Members.{contains_head, contains_tail}
+use Rattle.lattice_laws.proofs.Conformal.{length-add, length_below, rest_below, add_rest, norm_split, length-opposite, opposite-opposite, opposite-add, sub-opposite}
+use Rattle.lattice_laws.proofs.Products.{zeros_is}
+use Rattle.lattice_laws.proofs.SlackBases.{IsSigned}
+use Rattle.fold_laws.proofs.Agreement.{length-sub}
+use Rattle.fold_laws.proofs.Terms.{IsTerm, Lightly, none_spanned, lightly_add, lightly_times, lightly_opposite, term_lightly}
+use Rattle.fold_laws.proofs.Multiples.{greatest_below}
+use Rattle.fold_laws.proofs.ConformalSums.{PairsAreLight}
+
+-- each vector has n entries
+abbrev pub AreSized : ℕ → List Vector → Type 0
+AreSized n vs = AllByRecursion (λ v. length v ≡ n) vs
+
+-- ---- one turn
+
+-- what is found below z is below it, and a signed member
+found_below : (n : ℕ) (all basis : List Vector) (z e : Vector) → ((m : Vector) → Contains basis m → Contains all m) →
+    AreSized n basis → first_below basis z ≡ Some e → IsTerm n all e × (e ⊑ z)
+found_below n all [] z e inside sized h = absurd (cc)
+found_below n all (m ∷ basis) z e inside sized h =
+    by (conforms m z) (conforms (opposite m) z) refl refl h
+    (λ k. found_below n all basis z e (λ v c. inside v (contains_tail m basis v c)) sized.1 k)
+  where
+    here : Contains all m
+    here = inside m (contains_head m basis)
+
+    by : (s t : Bool) → conforms m z ≡ s → conforms (opposite m) z ≡ t →
+        cond s (Some m) (cond t (Some (opposite m)) (first_below basis z)) ≡ Some e →
+        (first_below basis z ≡ Some e → IsTerm n all e × (e ⊑ z)) → IsTerm n all e × (e ⊑ z)
+    by true t p q k rest =
+        let same : m ≡ e = cc in
+        subst (λ v. IsTerm n all v × (v ⊑ z)) same ((sized.0, inl here), p)
+    by false true p q k rest =
+        let same : opposite m ≡ e = cc in
+        subst (λ v. IsTerm n all v × (v ⊑ z)) same
+        ((length-opposite m ∙ sized.0, inr (subst (Contains all) (sym (opposite-opposite m)) here)), q)
+    by false false p q k rest = rest k
+
+-- ---- all turns
+
+module _ (n : ℕ) (basis : List Vector) (sized : AreSized n basis) where
+  zero_lightly : (z : Vector) → length z ≡ n → is_zero z ≡ true → Lightly n basis z
+  zero_lightly z size h =
+      subst (Lightly n basis) (ap zeros (sym size) ∙ sym (zeros_is z h)) (none_spanned n basis, omega arith)
+
+  -- a multiple of a signed member below z, and what is left of z
+  turn_lightly : (z e : Vector) (k : ℕ) → IsTerm n basis e → scale (pos k) e ⊑ z →
+      Lightly n basis (sub z (scale (pos k) e)) → Lightly n basis z
+  turn_lightly z e k term below rest =
+      let part = scale (pos k) e in
+      let norms : norm1 part + norm1 (sub z part) ≤ norm1 (add part (sub z part)) =
+      omega (arith, norm_split part z below, ap norm1 (add_rest part z below)) in
+      subst (Lightly n basis) (add_rest part z below)
+      (lightly_add n basis part (sub z part) norms (lightly_times n basis k e (term_lightly n basis e term)) rest)
+
+  -- what is 0 after so many turns is such a sum
+  reduced_lightly : (turns : ℕ) (z : Vector) → length z ≡ n → is_zero (reduced_within turns basis z) ≡ true →
+      Lightly n basis z
+  reduced_lightly zero z size h = zero_lightly z size h
+  reduced_lightly (suc turns) z size h = by (first_below basis z) refl (λ y left k. reduced_lightly turns y left k) h
+    where
+      turned : Option Vector → Vector
+      turned None = z
+      turned (Some e) = reduced_within turns basis (sub z (scale (pos (greatest_multiple e z)) e))
+
+      by : (o : Option Vector) → first_below basis z ≡ o →
+          ((y : Vector) → length y ≡ n → is_zero (reduced_within turns basis y) ≡ true → Lightly n basis y) →
+          is_zero (turned o) ≡ true → Lightly n basis z
+      by None p next k = zero_lightly z size k
+      by (Some e) p next k =
+          let found = found_below n basis basis z e (λ m c. c) sized p in
+          let part = scale (pos (greatest_multiple e z)) e in
+          let below : part ⊑ z = greatest_below e z found.1 in
+          let left : length (sub z part) ≡ n = length_below (sub z part) z (rest_below part z below) ∙ size in
+          turn_lightly z e (greatest_multiple e z) found.0 below (next (sub z part) left k)
+
+  pub reduces_lightly : (z : Vector) → length z ≡ n → reduces_to_zero basis z ≡ true → Lightly n basis z
+  reduces_lightly z size h = reduced_lightly (norm1 z) z size h
+
+-- ---- each two signed members
+
+-- the sum and the difference of each two members reduce to 0
+abbrev pub PairsReduce : List Vector → Type 0
+PairsReduce basis = (a b : Vector) → Contains basis a → Contains basis b →
+    (reduces_to_zero basis (add a b) ≡ true) × (reduces_to_zero basis (sub a b) ≡ true)
+
+pub pairs_light : (n : ℕ) (basis : List Vector) → AreSized n basis → PairsReduce basis → PairsAreLight n basis
+pairs_light n basis sized reduce a b (la, sa) (lb, sb) = by sa sb
+  where
+    oa : length (opposite a) ≡ n
+    oa = length-opposite a ∙ la
+
+    ob : length (opposite b) ≡ n
+    ob = length-opposite b ∙ lb
+
+    plus : (p q : Vector) → Contains basis p → Contains basis q → length p ≡ n → length q ≡ n →
+        Lightly n basis (add p q)
+    plus p q c d lp lq = reduces_lightly n basis sized (add p q) (length-add p q n lp lq) (reduce p q c d).0
+
+    less : (p q : Vector) → Contains basis p → Contains basis q → length p ≡ n → length q ≡ n →
+        Lightly n basis (add p (opposite q))
+    less p q c d lp lq =
+        subst (Lightly n basis) (sub-opposite p q)
+        (reduces_lightly n basis sized (sub p q) (length-sub p q n lp lq) (reduce p q c d).1)
+
+    turned : Lightly n basis (add (opposite a) (opposite b)) → Lightly n basis (add a b)
+    turned l =
+        subst (Lightly n basis)
+        (opposite-add (opposite a) (opposite b) ∙ (λ i. add (opposite-opposite a i) (opposite-opposite b i)))
+        (lightly_opposite n basis (add (opposite a) (opposite b)) l)
+
+    by : IsSigned basis a → IsSigned basis b → Lightly n basis (add a b)
+    by (inl c) (inl d) = plus a b c d la lb
+    by (inl c) (inr d) = subst (λ v. Lightly n basis (add a v)) (opposite-opposite b) (less a (opposite b) c d la ob)
+    by (inr c) (inl d) = turned (less (opposite a) b c d oa lb)
+    by (inr c) (inr d) = turned (plus (opposite a) (opposite b) c d oa ob)

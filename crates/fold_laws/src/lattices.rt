@@ -1,0 +1,20 @@
+//! What a list covers that is complete for the lattice of a matrix.
+
+ghost use Rattle.std.specs.Prelude.{List, IsTrue, All};
+ghost use Rattle.lattice_theory.specs.Vectors.{Vector};
+ghost use Rattle.lattice_theory.specs.Matrices.{Matrix};
+ghost use Rattle.lattice_theory.specs.Lattices.{is_complete_for};
+ghost use Rattle.lattice_laws.proofs.SlackBases.{Covers};
+ghost use Rattle.fold_laws.specs.Elements.{IsNonzeroElement};
+
+/// Law: a list that passes Pottier's criterion for the lattice of all `(v, A·v)` covers it: each element that is
+/// not 0 has a listed one conformally below it, as it is or with its signs turned. Each listed one is an element,
+/// and its `v` is not 0.
+///
+/// After L. Pottier, "Minimal solutions of linear diophantine systems" (1991), and R. Hemmecke, "On the
+/// computation of Hilbert bases and extreme rays of cones" (2002).
+pub fn a_complete_list_covers_its_lattice()
+    ensures covers { (m : Matrix) (basis : List Vector) → IsTrue (is_complete_for m basis) → Covers m basis }
+    ensures members { (m : Matrix) (basis : List Vector) →
+        IsTrue (is_complete_for m basis) → All (IsNonzeroElement m) basis }
+{}
