@@ -1,0 +1,248 @@
+-- A certificate that breaks no rule shows what it claims.
+use Rattle.std.proofs.Common.{◌≡◌, ℕ, ◌<◌, ◌≤◌, nat_eq, nat_lt, ℤ, pos, ◌≤ℤ◌, Bool, true, false, ◌&&◌, List, [], ◌∷◌, length, Option, Some, None, refl, arith, sym, ◌∙◌, subst}
+use Rattle.std.proofs.lemmas.Int.{ints}
+use Rattle.std.proofs.lemmas.Bool.Decides.{nat_tests}
+use Rattle.std.specs.List.{AllZip, AllByRecursion}
+use Rattle.std.proofs.lemmas.List.Elements.{recursion_from_All}
+use Rattle.fold_theory.specs.declared.Phase.{Phase}
+use Rattle.fold_theory.specs.declared.Phase.TheVariants.{Closed, Counted}
+use Rattle.fold_theory.specs.declared.Claim.{Claim}
+use Rattle.fold_theory.specs.declared.Claim.TheVariants as claim
+use Rattle.fold_theory.specs.declared.Verdict.TheVariants.{Optimal, InfeasibleLink}
+use Rattle.lattice_theory.specs.Lists.{all_zip}
+use Rattle.lattice_theory.specs.Vectors.{Vector, norm1, sub, zeros}
+use Rattle.lattice_theory.specs.Matrices.{product}
+use Rattle.lattice_theory.specs.Lattices.{is_complete_for}
+use Rattle.lattice_theory.specs.SignedSums.{vectors}
+use Rattle.lattice_laws.proofs.Tests.{and_true}
+use Rattle.lattice_laws.proofs.Conformal.{norm_none}
+use Rattle.lattice_laws.proofs.Products.{length-rows}
+use Rattle.fold_theory.specs.Programs.{Program, Brick, Bricks, IsBrick, IsProgram, AreWithin, MeetsBrickRows, is_within, brick_residual, link_rests, link_miss, cost, phase_cost}
+use Rattle.fold_theory.specs.Steps.{AllowsEnd}
+use Rattle.fold_theory.specs.Links.{complexity}
+use Rattle.fold_theory.specs.Certificates.{Certificate, FoldPart, listed_sums}
+use Rattle.fold_theory.specs.Checker.{at_most, potential_of, layers_hold, starts_at_zero, sums_are_closed, point_fits, parts_fit, fold_rules, first_failing, listed_generators, listed_links, Accept, claimed_verdict}
+use Rattle.fold_theory.specs.Verdicts.{Holds}
+use Rattle.fold_laws.proofs.Agreement.{same_vector}
+use Rattle.fold_laws.proofs.Bounds.{is_within_true, int_le_true}
+use Rattle.fold_laws.proofs.BrickMisses.{all_pass, accepted_holds}
+use Rattle.yes_laws.proofs.Layers.{UnitWalk, walk_bound}
+use Rattle.yes_laws.proofs.ListedSums.{le_true, combined_listed}
+use Rattle.yes_laws.proofs.OnePiece.{Frame}
+use Rattle.yes_laws.proofs.Least.{IsPlaced, IsHeld, least}
+use Rattle.yes_laws.proofs.Generators.{IsGenerator, complete_generators, each_has, gens_sized, written_of}
+use Rattle.yes_laws.proofs.Complexities.{complexity_some, light_part}
+
+-- ---- what the rules say
+
+-- the parts of the rules that the argument uses
+record Rules (p : Program) (phase : Phase) (c : Certificate) (f : FoldPart) : Type 0 where
+  point : point_fits p phase c.point.rows ≡ true
+  bricks : is_complete_for p.brick c.bricks.rows ≡ true
+  links : is_complete_for (listed_links p c) f.links.rows ≡ true
+  light : complexity phase (listed_links p c) f.links.rows ≤ f.bound
+  closed : sums_are_closed p.brick.cols (listed_generators p c) f.bound (listed_sums f) ≡ true
+  layers : layers_hold p phase (vectors (listed_sums f)) (link_rests p c.point.rows) p.bricks c.point.rows
+      f.potentials.rows ≡ true
+  starts : starts_at_zero p (vectors (listed_sums f)) f.potentials.rows ≡ true
+  misses : elim phase [ Closed ↦ true | Counted ↦ nat_lt 0 (link_miss p (link_rests p c.point.rows)) ] ≡ true
+
+lt_true : (m n : ℕ) → nat_lt m n ≡ true → m < n
+lt_true m n h = grind (arith, nat_tests)
+
+eq_true : (m n : ℕ) → nat_eq m n ≡ true → m ≡ n
+eq_true m n h = grind (arith, nat_tests)
+
+-- where none of the rules is the first to fail, each part holds
+rules_say : (p : Program) (phase : Phase) (c : Certificate) (f : FoldPart) →
+    first_failing (fold_rules p phase c f) ≡ None → Rules p phase c f
+rules_say p phase c f h =
+    let pass = all_pass (fold_rules p phase c f) h in
+    let fits = and_true (parts_fit p c f) (point_fits p phase c.point.rows) pass.0 in
+    let zs = vectors (listed_sums f) in
+    let held = layers_hold p phase zs (link_rests p c.point.rows) p.bricks c.point.rows f.potentials.rows in
+    let potentials = and_true held (starts_at_zero p zs f.potentials.rows) pass.1.1.1.1.1.0 in
+    record {
+      point = fits.1;
+      bricks = pass.1.0;
+      links = pass.1.1.0;
+      light = le_true (complexity phase (listed_links p c) f.links.rows) f.bound pass.1.1.1.0;
+      closed = pass.1.1.1.1.0;
+      layers = potentials.0;
+      starts = potentials.1;
+      misses = pass.1.1.1.1.1.1.0;
+    }
+
+-- ---- the frame
+
+-- the rules on lists, bound and sums give what pieces are found by
+frame_of : (p : Program) (phase : Phase) (c : Certificate) (f : FoldPart) → Rules p phase c f →
+    Frame p phase p.brick.cols (listed_generators p c) (vectors (listed_sums f)) f.bound
+frame_of p phase c f rules =
+    let t = p.brick.cols in
+    let gens = listed_generators p c in
+    let m = listed_links p c in
+    let each = complete_generators p.brick c.bricks.rows rules.bricks in
+    let sized = gens_sized p.brick c.bricks.rows rules.bricks in
+    record {
+      some = omega (arith, complexity_some phase m f.links.rows, rules.light);
+      sized = sized;
+      nonzero = each_has (IsGenerator p.brick) (λ g. 0 < norm1 g) (λ g is. is.nonzero) gens each;
+      still =
+          each_has (IsGenerator p.brick) (λ g. product p.brick g ≡ zeros (length p.brick.rows)) (λ g is. is.still) gens
+          each;
+      writes = λ d size still. written_of p.brick c.bricks.rows rules.bricks d size still;
+      light = λ w size some tight. light_part phase m f.links.rows rules.links f.bound rules.light w size some tight;
+      listed = λ count low. combined_listed t gens f.bound (listed_sums f) rules.closed sized count low;
+    }
+
+-- ---- the point
+
+-- the tests of the point, brick by brick
+within_of : (bs : List Brick) (x : Bricks) → all_zip is_within bs x ≡ true → AreWithin bs x
+within_of [] [] h = tt
+within_of [] (v ∷ x) h = absurd (cc)
+within_of (b ∷ bs) [] h = absurd (cc)
+within_of (b ∷ bs) (v ∷ x) h =
+    let q = and_true (is_within b v) (all_zip is_within bs x) h in (is_within_true b v q.0, within_of bs x q.1)
+
+module _ (p : Program) where
+  abbrev residual_none : Brick → Vector → Bool
+  residual_none b v = nat_eq (brick_residual p b v) 0
+
+  meets_of : (bs : List Brick) (x : Bricks) → AllByRecursion (IsBrick p.brick.cols (length p.brick.rows)) bs →
+      all_zip residual_none bs x ≡ true → AllZip (λ b v. product p.brick v ≡ b.right) bs x
+  meets_of [] [] is h = tt
+  meets_of [] (v ∷ x) is h = absurd (cc)
+  meets_of (b ∷ bs) [] is h = absurd (cc)
+  meets_of (b ∷ bs) (v ∷ x) is h =
+      let q = and_true (residual_none b v) (all_zip residual_none bs x) h in
+      let none = eq_true (brick_residual p b v) 0 q.0 in (
+        same_vector (product p.brick v) b.right (length-rows p.brick.rows v ∙ sym is.0.right_size)
+            (norm_none (sub b.right (product p.brick v)) none),
+        meets_of bs x is.1 q.1,
+      )
+
+  -- the bricks of a program, with the columns of the brick matrix
+  pub bricks_of : IsProgram p → AllByRecursion (IsBrick p.brick.cols (length p.brick.rows)) p.bricks
+  bricks_of program =
+      subst (λ t. AllByRecursion (IsBrick t (length p.brick.rows)) p.bricks) (sym program.brick_shape.width)
+      (recursion_from_All (IsBrick p.link.cols (length p.brick.rows)) p.bricks program.each_brick)
+
+  -- by the rule on the point it is where the phase wants it
+  placed_of : (phase : Phase) (x : Bricks) → IsProgram p → point_fits p phase x ≡ true → IsPlaced p phase x
+  placed_of phase x program h =
+      let last = and_true (all_zip is_within p.bricks x && all_zip residual_none p.bricks x) (ends_test phase) h in
+      let both = and_true (all_zip is_within p.bricks x) (all_zip residual_none p.bricks x) last.0 in
+      record {
+        within = within_of p.bricks x both.0;
+        meets = meets_of p.bricks x (bricks_of program) both.1;
+        ends = by phase last.1;
+      }
+    where
+      ends_test : Phase → Bool
+      ends_test f = elim f [ Closed ↦ nat_eq (link_miss p (link_rests p x)) 0 | Counted ↦ true ]
+
+      by : (f : Phase) → ends_test f ≡ true → AllowsEnd p f x
+      by Closed k = eq_true (link_miss p (link_rests p x)) 0 k
+      by Counted k = tt
+
+-- ---- no walk gains
+
+module _ (p : Program) (phase : Phase) (zs : List Vector) (rests : Vector) (x : Bricks) where
+  not_negative : (first : Option ℤ) (c : ℤ) → at_most (Some (pos 0)) first ≡ true → at_most first (Some c) ≡ true →
+      pos 0 ≤ℤ c
+  not_negative None c h k = absurd (cc)
+  not_negative (Some a) c h k = omega (arith, ints, int_le_true (pos 0) a h, int_le_true a c k)
+
+  no_gain : (rows : List (List (Option ℤ))) → layers_hold p phase zs rests p.bricks x rows ≡ true →
+      starts_at_zero p zs rows ≡ true → (h : Bricks) (c : ℤ) →
+      UnitWalk p phase zs rests p.bricks x (zeros p.brick.cols) h c → pos 0 ≤ℤ c
+  no_gain [] layers starts h c walk = absurd (cc)
+  no_gain (row ∷ rows) layers starts h c walk =
+      by (potential_of zs row (zeros p.brick.cols)) refl starts
+    where
+      test : Option (Option ℤ) → Bool
+      test o = elim o [ None ↦ false | Some first ↦ at_most (Some (pos 0)) first ]
+
+      by : (o : Option (Option ℤ)) → potential_of zs row (zeros p.brick.cols) ≡ o → test o ≡ true → pos 0 ≤ℤ c
+      by None e k = absurd (cc)
+      by (Some first) e k =
+          not_negative first c k
+          (walk_bound p phase zs rests p.bricks x row rows (zeros p.brick.cols) first h c layers e walk)
+
+-- ---- the verdicts
+
+module _ (p : Program) (phase : Phase) (c : Certificate) (f : FoldPart) (program : IsProgram p)
+    (rules : Rules p phase c f) where
+  held_of : IsHeld p phase p.brick.cols (vectors (listed_sums f)) c.point.rows
+  held_of = record {
+    right = program.right_size;
+    bricks = bricks_of p program;
+    placed = placed_of p phase c.point.rows program rules.point;
+    no_gain =
+        no_gain p phase (vectors (listed_sums f)) (link_rests p c.point.rows) c.point.rows f.potentials.rows
+        rules.layers rules.starts;
+  }
+
+  -- no point that is where the phase wants it costs less than the point of the certificate
+  shown_least : (y : Bricks) → IsPlaced p phase y → phase_cost p phase c.point.rows ≤ℤ phase_cost p phase y
+  shown_least y placed =
+      least p phase p.brick.cols (vectors (listed_sums f)) c.point.rows held_of (listed_generators p c) f.bound
+      (frame_of p phase c f rules) y placed
+
+-- of the least cost
+optimum : (p : Program) (c : Certificate) (f : FoldPart) → IsProgram p → Rules p Closed c f →
+    Holds p (Optimal (cost p c.point.rows))
+optimum p c f program rules =
+    let x = c.point.rows in
+    let placed = placed_of p Closed x program rules.point in
+    record {
+      reached = (x, record { within = placed.within; brick_rows = placed.meets; link_rows = placed.ends }, refl);
+      least = λ y feasible.
+          shown_least p Closed c f program rules y
+          (record { within = feasible.within; meets = feasible.brick_rows; ends = feasible.link_rows });
+    }
+
+-- of linking rows that cannot be met
+link_miss_holds : (p : Program) (c : Certificate) (f : FoldPart) → IsProgram p → Rules p Counted c f →
+    Holds p (InfeasibleLink (link_miss p (link_rests p c.point.rows)))
+link_miss_holds p c f program rules = (
+  record {
+    above = above;
+    reached = (x, placed.within, placed.meets, refl);
+    least = no_less;
+  },
+  λ y feasible.
+      omega (arith, above, no_less y feasible.within feasible.brick_rows, feasible.link_rows),
+)
+  where
+    x : Bricks
+    x = c.point.rows
+
+    placed : IsPlaced p Counted x
+    placed = placed_of p Counted x program rules.point
+
+    above : 0 < link_miss p (link_rests p x)
+    above = lt_true 0 (link_miss p (link_rests p x)) rules.misses
+
+    no_less : (y : Bricks) → AreWithin p.bricks y → MeetsBrickRows p y →
+        link_miss p (link_rests p x) ≤ link_miss p (link_rests p y)
+    no_less y within meets =
+        let low = shown_least p Counted c f program rules y (record { within = within; meets = meets; ends = tt }) in
+        omega (arith, ints, low)
+
+-- the certificate with this claim and these parts about the linking rows
+abbrev claiming : Certificate → Claim → Option FoldPart → Certificate
+claiming c k o = record { claim = k; point = c.point; bricks = c.bricks; fold = o }
+
+-- what a certificate claims that breaks no rule
+pub yes_holds : (p : Program) (c : Certificate) → IsProgram p → Accept p c → Holds p (claimed_verdict p c)
+yes_holds p c program accepted = by c.claim c.fold accepted
+  where
+    by : (k : Claim) (o : Option FoldPart) → Accept p (claiming c k o) → Holds p (claimed_verdict p (claiming c k o))
+    by claim.Optimal None h = absurd (cc)
+    by claim.Optimal (Some f) h = optimum p c f program (rules_say p Closed c f h)
+    by claim.InfeasibleLink None h = absurd (cc)
+    by claim.InfeasibleLink (Some f) h = link_miss_holds p c f program (rules_say p Counted c f h)
+    by (claim.InfeasibleBrick i) o h = accepted_holds p (claiming c (claim.InfeasibleBrick i) o) i program refl h

@@ -1,0 +1,57 @@
+-- The law at values worked by hand: two bricks with the row v1 + v2 = 4, bounds 0 and 4 and cost v1 * v1, and one
+-- linking row on the first columns. Where these are to add up to 3 the least cost is 1 + 4; to 9 they cannot add up.
+use Rattle.std.specs.Prelude.{◌≡◌, ℕ, pos, [], ◌∷◌, refl}
+use Rattle.std.proofs.lemmas.List.Elements.{All-from_recursion}
+use Rattle.fold_theory.specs.declared.Verdict.TheVariants.{Optimal, InfeasibleLink}
+use Rattle.lattice_theory.proofs.KnownValues.{minus}
+use Rattle.fold_theory.specs.Programs.{Program, IsBrick, IsProgram}
+use Rattle.fold_theory.specs.Certificates.{Certificate}
+use Rattle.fold_theory.specs.Checker.{Accept, claimed_verdict}
+use Rattle.fold_theory.specs.Verdicts.{Holds}
+use Rattle.fold_theory.proofs.KnownValues.{program_with, certificate_with, link_certificate}
+use Rattle.fold_laws.proofs.KnownValues.{one_brick, one_row}
+use Rattle.yes_laws.proofs.Accepted.{yes_holds}
+
+-- what the first columns are to add up to is no part of what makes it a program
+it_is_a_program : (right : ℕ) → IsProgram (program_with right 4)
+it_is_a_program right = record {
+  link_shape = one_row (pos 1 ∷ pos 0 ∷ []) refl;
+  brick_shape = one_row (pos 1 ∷ pos 1 ∷ []) refl;
+  right_size = refl;
+  each_brick = All-from_recursion (IsBrick 2 1) (program_with right 4).bricks (one_brick 4, (one_brick 4, tt));
+}
+
+-- ---- the least cost
+
+abbrev the_program : Program
+the_program = program_with 3 4
+
+abbrev the_certificate : Certificate
+the_certificate = certificate_with (minus 3)
+
+pub it_is_accepted : Accept the_program the_certificate
+it_is_accepted = refl
+
+-- the point (1 3), (2 2) costs 1 + 4
+pub its_claim : claimed_verdict the_program the_certificate ≡ Optimal (pos 5)
+its_claim = refl
+
+-- all premises of the law are met, and it says that no feasible point costs less than 5
+pub it_holds : Holds the_program (Optimal (pos 5))
+it_holds = yes_holds the_program the_certificate (it_is_a_program 3) it_is_accepted
+
+-- ---- the linking row cannot reach 9
+
+abbrev the_wider_program : Program
+the_wider_program = program_with 9 4
+
+pub link_is_accepted : Accept the_wider_program link_certificate
+link_is_accepted = refl
+
+-- 4 + 4 misses 9 by 1
+pub link_claim : claimed_verdict the_wider_program link_certificate ≡ InfeasibleLink 1
+link_claim = refl
+
+-- the law says that the linking row is missed by 1 at least
+pub link_holds : Holds the_wider_program (InfeasibleLink 1)
+link_holds = yes_holds the_wider_program link_certificate (it_is_a_program 9) link_is_accepted

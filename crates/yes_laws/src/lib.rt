@@ -1,0 +1,16 @@
+//! What a certificate shows: one that breaks no rule shows the verdict that it claims, however it was found. For the
+//! claims on all bricks: each way from the point of the certificate to another one has a piece that the listed sums
+//! hold, the potentials say that no such piece lowers the cost, and the rest of the way is shorter.
+#![tactic(auto)]
+
+ghost use Rattle.fold_theory.specs.Programs.{Program, IsProgram};
+ghost use Rattle.fold_theory.specs.Certificates.{Certificate};
+ghost use Rattle.fold_theory.specs.Checker.{Accept, claimed_verdict};
+ghost use Rattle.fold_theory.specs.Verdicts.{Holds};
+
+/// Law: a certificate that breaks no rule shows what it claims: that the point of the certificate is feasible and no
+/// feasible point costs less; that it is within the bounds, meets the brick rows and misses the linking rows, and no
+/// such point misses them by less; or that no vector within the bounds of the brick misses its rows by less.
+pub fn a_yes_holds()
+    ensures { (p : Program) (c : Certificate) → IsProgram p → Accept p c → Holds p (claimed_verdict p c) }
+{}
