@@ -1,0 +1,11 @@
+pub mod SlackParts
+pub mod SignedLists
+pub mod Frames
+pub mod UnitSteps
+pub mod Best
+pub mod BrickRuns
+pub mod Stuck
+pub mod PhaseRuns
+pub mod TrueOutcomes
+mod KnownValues
+mod SmallPrograms
