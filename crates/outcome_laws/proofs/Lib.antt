@@ -1,0 +1,5 @@
+pub mod Runs
+pub mod SumLists
+pub mod SettledBricks
+pub mod OneOutcome
+pub mod OneCertificate
