@@ -1,0 +1,94 @@
+-- The law at values worked by hand: two bricks with the row v1 + v2 = 4, bounds 0 and 4 and cost v1 * v1, and one
+-- linking row, by which the first columns are to add up to 3.
+use Rattle.std.specs.Prelude.{◌≡◌, ◌*◌, ◌≤◌, ◌-ℤ◌, ℤ, pos, neg_ℤ, ◌≤ℤ◌, unsigned_abs, map, List, [], ◌∷◌, length, refl}
+use Rattle.std.proofs.Common.{arith, ap}
+use Rattle.std.proofs.lemmas.Int.{ints}
+use Rattle.std.proofs.lemmas.List.Elements.{All-from_recursion}
+use Rattle.fold_theory.specs.declared.Phase.TheVariants.{Closed}
+use Rattle.lattice_theory.specs.Vectors.{Vector}
+use Rattle.lattice_theory.specs.SignedSums.{Sum, vectors}
+use Rattle.lattice_theory.proofs.KnownValues.{minus}
+use Rattle.fold_theory.specs.Programs.{Bricks, IsBrick, IsProgram, IsWithin, phase_cost}
+use Rattle.fold_theory.specs.Links.{Bases, AreBases}
+use Rattle.fold_theory.specs.BrickSums.{AreBrickSums}
+use Rattle.fold_theory.specs.Steps.{Move, IsRun}
+use Rattle.fold_theory.specs.Outcomes.{bound_number}
+use Rattle.fold_theory.proofs.KnownValues.{brick_with, the_program, point_of, best_point}
+use Rattle.fold_laws.proofs.KnownValues.{one_brick, one_row}
+use Rattle.run_laws.specs.Starts.{IsStart}
+use Rattle.count_laws.specs.Digits.{binary_digits}
+use Rattle.count_laws.proofs.FewSteps.{few_steps}
+
+-- ---- binary digits
+
+pub none_of_zero : binary_digits 0 ≡ 0
+none_of_zero = refl
+
+pub one_of_one : binary_digits 1 ≡ 1
+one_of_one = refl
+
+-- 100, 111 and 1000
+pub three_of_four : binary_digits 4 ≡ 3
+three_of_four = refl
+
+pub three_of_seven : binary_digits 7 ≡ 3
+three_of_seven = refl
+
+pub four_of_eight : binary_digits 8 ≡ 4
+four_of_eight = refl
+
+-- ---- the steps of a run
+
+-- the sums of at most two generators (1 -1), of either sign
+abbrev the_sums : List Vector
+the_sums = map (λ a. a ∷ neg_ℤ a ∷ []) (minus 2 ∷ minus 1 ∷ pos 0 ∷ pos 1 ∷ pos 2 ∷ [])
+
+-- two bricks of two columns and one linking row, where no entry is past 2: 2 * 5 * 2
+pub its_bound_number : bound_number the_program the_sums ≡ 20
+its_bound_number = refl
+
+-- (0 4), (3 1) costs 9, and the best point costs 5
+abbrev the_start : Bricks
+the_start = point_of (pos 0) (pos 4) (pos 3) (pos 1)
+
+pub whole_gain : unsigned_abs (phase_cost the_program Closed the_start -ℤ phase_cost the_program Closed best_point) ≡ 4
+whole_gain = refl
+
+it_is_a_program : IsProgram the_program
+it_is_a_program = record {
+  link_shape = one_row (pos 1 ∷ pos 0 ∷ []) refl;
+  brick_shape = one_row (pos 1 ∷ pos 1 ∷ []) refl;
+  right_size = refl;
+  each_brick = All-from_recursion (IsBrick 2 1) the_program.bricks (one_brick 4, (one_brick 4, tt));
+}
+
+from_zero_to_four : (a b : ℤ) → pos 0 ≤ℤ a → a ≤ℤ pos 4 → pos 0 ≤ℤ b → b ≤ℤ pos 4 → IsWithin (brick_with 4) (a ∷ b ∷ [])
+from_zero_to_four a b low high left right = ((low, (left, tt)), (high, (right, tt)))
+
+it_is_a_start : IsStart the_program Closed the_start
+it_is_a_start = record {
+  within = (
+    from_zero_to_four (pos 0) (pos 4) (omega (arith, ints)) (omega (arith, ints)) (omega (arith, ints))
+        (omega (arith, ints)),
+    (
+      from_zero_to_four (pos 3) (pos 1) (omega (arith, ints)) (omega (arith, ints)) (omega (arith, ints))
+          (omega (arith, ints)),
+      tt,
+    ),
+  );
+  brick_rows = (refl, (refl, tt));
+  end = refl;
+}
+
+-- 20 * 3
+pub at_most_sixty : (b : Bases) (sums : List Sum) (moves : List Move) → vectors sums ≡ the_sums →
+    AreBases the_program b → AreBrickSums the_program Closed b sums →
+    IsRun the_program Closed (vectors sums) the_start moves best_point → length moves ≤ 60
+at_most_sixty b sums moves same bases are run =
+    let whole : bound_number the_program (vectors sums) * binary_digits 4 ≡ 60 =
+    ap (λ zs. bound_number the_program zs * binary_digits 4) same in
+    omega (
+      arith,
+      few_steps the_program Closed b sums the_start best_point moves it_is_a_program bases are it_is_a_start run,
+      whole,
+    )
