@@ -59,6 +59,13 @@ fn five_sums_are_more_than_four(rt: HostRuntime) -> Result<(), Fail> {
 }
 
 #[test]
+fn sums_of_very_many_generators_are_too_many(rt: HostRuntime) -> Result<(), Fail> {
+    let refused = sums(rt.alloc(), &exchange(rt.alloc())?, 1 << 42, 20000);
+    assert!(rt; matches!(refused, Err(SumsFault::Limit)));
+    Ok(())
+}
+
+#[test]
 fn each_further_exchange_gives_two_more(rt: HostRuntime) -> Result<(), Fail> {
     let listed = sums(rt.alloc(), &exchange(rt.alloc())?, 52, 20000)?;
     assert_eq!(rt; listed.len(), 105);
