@@ -86,24 +86,24 @@ module _ {A B : Type 0} (first : List File → Result A Stop) (rest : A → List
 -- ---- the faults of the calls below
 
 -- why a file is not loaded is why its bytes are not read
-pub load_refused : (files : Option (List File)) (prefix name : List ℕ) (kind : FileKind) (before now : ℕ)
+pub load_refused : (files : Option (List File)) (prefix name : List ℕ) (kind : FileKind) (most before now : ℕ)
     (fault : LoadFault) → name ≡ prefix ++ suffix_of kind
-    → IsLoadCause files name (2 ^ 26) before now fault →
-    IsReadCause (λ fs. bytes_of fs prefix kind (2 ^ 26)) files prefix before now (load_fault kind fault)
-load_refused files prefix name kind before now loading.Missing is cause = (
+    → IsLoadCause files name most before now fault →
+    IsReadCause (λ fs. bytes_of fs prefix kind most) files prefix before now (load_fault kind fault)
+load_refused files prefix name kind most before now loading.Missing is cause = (
   subst (λ (n : List ℕ). IsMissing files n before now) is cause,
-  ForTold-all files _ (λ fs. bytes_of_removed fs prefix kind (2 ^ 26)),
+  ForTold-all files _ (λ fs. bytes_of_removed fs prefix kind most),
 )
-load_refused files prefix name kind before now loading.Failed is cause =
-    (inr cause, ForTold-all files _ (λ fs. bytes_of_removed fs prefix kind (2 ^ 26)))
-load_refused files prefix name kind before now loading.TooLong is cause = (
+load_refused files prefix name kind most before now loading.Failed is cause =
+    (inr cause, ForTold-all files _ (λ fs. bytes_of_removed fs prefix kind most))
+load_refused files prefix name kind most before now loading.TooLong is cause = (
   TooLong kind,
   refl,
   ForTold-weaker files _ _ (λ fs long.
       let there = ap (λ (n : List ℕ). file_named fs n) (sym is) ∙ long.1 in
-      rw (there, lt-ltb (2 ^ 26) (length long.0) long.2, bytes_of) refl) cause,
+      rw (there, lt-ltb most (length long.0) long.2, bytes_of) refl) cause,
 )
-load_refused files prefix name kind before now loading.Memory is cause = tt
+load_refused files prefix name kind most before now loading.Memory is cause = tt
 
 stops_then : {A B : Type 0} (files : Option (List File)) (found : List File → Result A Stop) (a : A)
     (next : A → Result B Stop) (f : ReadFault) (stop : Stop) → stop_of f ≡ Some stop

@@ -92,3 +92,7 @@ point_in files prefix p = matrix_of files prefix file.Point (exactly (length p.b
 -- the matrix by itself in its file
 abbrev pub plain_in : List File → List ℕ → Result Matrix Stop
 plain_in files prefix = matrix_of files prefix file.Plain (shaped 0 16 1 32 (2 ^ 31 - 1))
+
+-- the bytes of the certificate in its file, of which there are at most 2 ^ 27
+abbrev pub certificate_in : List File → List ℕ → Result (List ℕ) Stop
+certificate_in files prefix = bytes_of files prefix file.Cert (2 ^ 27)

@@ -7,7 +7,7 @@ ghost use Rattle.fold_shelf.specs.Outside.{ForTold};
 ghost use Rattle.mat_files.specs.MatrixText.{Admits};
 ghost use Rattle.fold_program.specs.Files.{suffix_of};
 ghost use Rattle.fold_program.specs.Points.{HasPointShape};
-ghost use Rattle.fold_files.specs.Reading.{bytes_of, shaped, exactly, matrix_of, costs_of, program_in, point_in, plain_in};
+ghost use Rattle.fold_files.specs.Reading.{bytes_of, shaped, exactly, matrix_of, costs_of, program_in, point_in, plain_in, certificate_in};
 ghost use Rattle.fold_files.specs.Causes.{IsReadCause, IsOfFile};
 
 use crate::cost_file::parse_costs;
@@ -18,8 +18,11 @@ use fold_shelf::{Shelf, load};
 use mat_files::{Matrix, Shape, parse};
 use std::alloc::{AllocError, Global};
 
-/// The most bytes that a file may have.
+/// The most bytes that a file other than a certificate may have.
 const LONGEST: u64 = 1 << 26;
+
+/// The most bytes that a certificate may have.
+const LONGEST_CERTIFICATE: u64 = 1 << 27;
 
 /// The largest absolute value of an entry of the two matrices of a program, and of a matrix by itself.
 const NARROW: u64 = (1 << 31) - 1;
@@ -115,11 +118,29 @@ pub fn read_plain<S: Shelf>(alloc: Global, shelf: &mut S, prefix: &str) -> Resul
     ensures matrix { IfOk result (λ m. ForTold (S.files shelf.old) (λ fs. plain_in fs prefix.now ≡ Ok m)) }
     ensures shape { IfOk result (Admits (shaped 0 16 1 32 (2 ^ 31 - 1))) }
     ensures refused { IfErr result (IsReadCause (λ fs. plain_in fs prefix.now) (S.files shelf.old) prefix.now (S.read_faults shelf.old) (S.read_faults shelf.new)) }
+    ensures file { IfErr result (IsOfFile FileKind.Plain) }
     ensures later { S.read_faults shelf.old ≤ S.read_faults shelf.new }
     ensures files { S.files shelf.new ≡ S.files shelf.old }
     ensures writes { S.write_faults shelf.new ≡ S.write_faults shelf.old }
 {
     read_matrix(alloc, shelf, prefix, FileKind::Plain, &plain_shape())
+}
+
+/// Reads the bytes of the certificate in the file whose name is `prefix` and `.cert`, of which there are at most `2^27`.
+/// They may spell no certificate. The faults are those of `read_program`, of this file alone.
+pub fn read_certificate<S: Shelf>(
+    alloc: Global,
+    shelf: &mut S,
+    prefix: &str,
+) -> Result<Vec<u8>, ReadFault>
+    ensures bytes { IfOk result (λ b. ForTold (S.files shelf.old) (λ fs. certificate_in fs prefix.now ≡ Ok b.items)) }
+    ensures refused { IfErr result (IsReadCause (λ fs. certificate_in fs prefix.now) (S.files shelf.old) prefix.now (S.read_faults shelf.old) (S.read_faults shelf.new)) }
+    ensures file { IfErr result (IsOfFile FileKind.Cert) }
+    ensures later { S.read_faults shelf.old ≤ S.read_faults shelf.new }
+    ensures files { S.files shelf.new ≡ S.files shelf.old }
+    ensures writes { S.write_faults shelf.new ≡ S.write_faults shelf.old }
+{
+    read_bytes(alloc, shelf, prefix, FileKind::Cert, LONGEST_CERTIFICATE)
 }
 
 /// The shape of a linking matrix, and of a matrix by itself.
@@ -165,7 +186,7 @@ fn read_matrix<S: Shelf>(
     ensures files { S.files shelf.new ≡ S.files shelf.old }
     ensures writes { S.write_faults shelf.new ≡ S.write_faults shelf.old }
 {
-    let bytes = read_bytes(alloc, shelf, prefix, file)?;
+    let bytes = read_bytes(alloc, shelf, prefix, file, LONGEST)?;
     match parse(alloc, &bytes, shape) {
         Ok(matrix) => Ok(matrix),
         Err(fault) => Err(ReadFault::of_form(file, fault)),
@@ -193,26 +214,27 @@ fn read_costs<S: Shelf>(
     ensures files { S.files shelf.new ≡ S.files shelf.old }
     ensures writes { S.write_faults shelf.new ≡ S.write_faults shelf.old }
 {
-    let bytes = read_bytes(alloc, shelf, prefix, FileKind::Costs)?;
+    let bytes = read_bytes(alloc, shelf, prefix, FileKind::Costs, LONGEST)?;
     Ok(parse_costs(alloc, &bytes, n, t)?)
 }
 
-/// Reads the bytes of a file.
+/// Reads the bytes of a file, of which there are at most so many.
 fn read_bytes<S: Shelf>(
     alloc: Global,
     shelf: &mut S,
     prefix: &str,
     file: FileKind,
+    most: u64,
 ) -> Result<Vec<u8>, ReadFault>
-    ensures bytes { IfOk result (λ b. ForTold (S.files shelf.old) (λ fs. bytes_of fs prefix.now file (2 ^ 26) ≡ Ok b.items)) }
-    ensures refused { IfErr result (IsReadCause (λ fs. bytes_of fs prefix.now file (2 ^ 26)) (S.files shelf.old) prefix.now (S.read_faults shelf.old) (S.read_faults shelf.new)) }
+    ensures bytes { IfOk result (λ b. ForTold (S.files shelf.old) (λ fs. bytes_of fs prefix.now file most ≡ Ok b.items)) }
+    ensures refused { IfErr result (IsReadCause (λ fs. bytes_of fs prefix.now file most) (S.files shelf.old) prefix.now (S.read_faults shelf.old) (S.read_faults shelf.new)) }
     ensures file { IfErr result (IsOfFile file) }
     ensures later { S.read_faults shelf.old ≤ S.read_faults shelf.new }
     ensures files { S.files shelf.new ≡ S.files shelf.old }
     ensures writes { S.write_faults shelf.new ≡ S.write_faults shelf.old }
 {
     let name = file_name(alloc, prefix, file)?;
-    match load(alloc, shelf, &name, LONGEST) {
+    match load(alloc, shelf, &name, most) {
         Ok(bytes) => Ok(bytes),
         Err(fault) => Err(ReadFault::of_load(file, fault)),
     }

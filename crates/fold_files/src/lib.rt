@@ -7,4 +7,4 @@ mod files;
 
 pub use cost_file::parse_costs;
 pub use fault::{CostFileFault, ReadFault};
-pub use files::{read_plain, read_point, read_program};
+pub use files::{read_certificate, read_plain, read_point, read_program};

@@ -10,3 +10,4 @@ mod AcceptLaws
 mod PartsLaws
 mod CostLaws
 mod PointLaws
+mod RestLaws

@@ -77,3 +77,21 @@ pub enum ProgramFault {
     #[error("out of memory")]
     Memory,
 }
+
+#[cfg(test)]
+mod tests {
+    use super::*;
+
+    #[test]
+    fn each_file_has_a_suffix_of_its_own(rt: HostRuntime) {
+        for (kind, suffix) in [
+            (FileKind::Link, ".link.mat"),
+            (FileKind::Lower, ".lb"),
+            (FileKind::Right, ".rhs"),
+            (FileKind::Cert, ".cert"),
+            (FileKind::Plain, ".mat"),
+        ] {
+            assert_eq!(rt; kind.suffix(), suffix);
+        }
+    }
+}

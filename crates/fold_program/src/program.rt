@@ -2,10 +2,13 @@
 
 mod acceptance;
 mod breaks;
+mod bricks;
 mod sums;
 
 ghost use Rattle.std.specs.Prelude.{◌≡◌, ◌≤◌, ◌-◌, ◌*◌, ◌^◌, Some, length, slice_get, All, IfSome, map};
 ghost use Rattle.lattice_theory.specs.BasisLimits.{IsNarrow};
+ghost use Rattle.fold_theory.specs.Programs.{IsProgram};
+ghost use Rattle.fold_program.specs.Faults.{IsBoundedRow};
 ghost use Rattle.fold_program.specs.Places.{OfBrick};
 
 use convex_costs::BoundCost;
@@ -36,11 +39,12 @@ impl Model for Program {
 }
 
 impl Program {
-    /// How many bricks there are: 1 to 10,000.
+    /// How many bricks there are: 1 to 10,000. The parts fit each other, no bounds cross, and each cost is convex on its bounds.
     pub fn n(&self) -> u32
         ensures bricks { result ≡ length self.now.bricks }
         ensures from { 1 ≤ result }
         ensures to { result ≤ 10000 }
+        ensures program { IsProgram self.now }
     {
         self.lower.rows()
     }
@@ -129,29 +133,31 @@ impl Program {
         self.right_row(brick)[row as usize - 1]
     }
 
-    /// The lower bounds of a brick.
-    fn lower_row(&self, brick: u32) -> &[i64]
+    /// The lower bounds of a brick, column by column: at most `2^62` in absolute value.
+    pub fn lower_row(&self, brick: u32) -> &[i64]
         requires from { 1 ≤ brick }
         requires to { brick ≤ length self.now.bricks }
         ensures bounds { OfBrick self.now brick (λ b. result.now ≡ b.lower) }
         ensures width { length result.now ≡ self.now.link.cols }
         ensures few { length result.now ≤ 32 }
+        ensures bounded { IsBoundedRow result.now }
     {
         self.lower.row(brick)
     }
 
-    /// The upper bounds of a brick.
-    fn upper_row(&self, brick: u32) -> &[i64]
+    /// The upper bounds of a brick, column by column: at most `2^62` in absolute value.
+    pub fn upper_row(&self, brick: u32) -> &[i64]
         requires from { 1 ≤ brick }
         requires to { brick ≤ length self.now.bricks }
         ensures bounds { OfBrick self.now brick (λ b. result.now ≡ b.upper) }
         ensures width { length result.now ≡ self.now.link.cols }
+        ensures bounded { IsBoundedRow result.now }
     {
         self.upper.row(brick)
     }
 
-    /// The right sides of a brick.
-    fn right_row(&self, brick: u32) -> &[i64]
+    /// The right sides of a brick, row by row.
+    pub fn right_row(&self, brick: u32) -> &[i64]
         requires from { 1 ≤ brick }
         requires to { brick ≤ length self.now.bricks }
         ensures rights { OfBrick self.now brick (λ b. result.now ≡ b.right) }

@@ -57,6 +57,17 @@ fn reads_a_matrix(rt: HostRuntime) -> Result<(), Fail> {
     Ok(())
 }
 
+#[test]
+fn reads_the_bytes_of_a_certificate(rt: HostRuntime) -> Result<(), Fail> {
+    let mut shelf = shelf_of(&rt, rt.alloc(), &[("t.cert", "any bytes\n")])?;
+    let bytes = read_certificate(rt.alloc(), &mut shelf, "t")?;
+    assert_eq!(rt; bytes.as_slice(), b"any bytes\n".as_slice());
+    let absent = read_certificate(rt.alloc(), &mut shelf, "u").err();
+    let file = FileKind::Cert;
+    assert_eq!(rt; absent, Some(ReadFault::Shelf { file }));
+    Ok(())
+}
+
 /// The fault of reading the program where one file is another.
 fn fault_with(
     rt: &impl Abort,

@@ -132,6 +132,27 @@ fn its_sizes_and_sides_are_those_of_the_parts(rt: HostRuntime) -> Result<(), Fai
 }
 
 #[test]
+fn a_brick_is_judged_by_its_bounds_and_its_row(rt: HostRuntime) -> Result<(), Fail> {
+    let program = program(rt.alloc())?;
+    assert_eq!(rt; program.n(), 2);
+    assert_eq!(rt; program.t(), 2);
+    assert_eq!(rt; program.lower_row(1), [0, 0].as_slice());
+    assert_eq!(rt; program.upper_row(2), [4, 4].as_slice());
+    assert_eq!(rt; program.right_row(2), [4].as_slice());
+    for (vector, within, residual) in [
+        ([0, 4], true, 0),
+        ([4, 4], true, 4),
+        ([0, 0], true, 4),
+        ([5, -1], false, 0),
+        ([-3, -3], false, 10),
+    ] {
+        assert_eq!(rt; program.is_within(2, vector.as_slice()), within);
+        assert_eq!(rt; program.residual(2, vector.as_slice()), residual);
+    }
+    Ok(())
+}
+
+#[test]
 fn the_first_thing_that_a_point_breaks_is_named(rt: HostRuntime) -> Result<(), Fail> {
     let program = program(rt.alloc())?;
     for (entries, broken) in [
