@@ -1,0 +1,33 @@
+-- The definitions at values worked by hand.
+use Rattle.std.proofs.Common.{◌≡◌, pos, negsuc, [], ◌∷◌, refl, arith}
+use Rattle.fold_theory.specs.declared.Cost.TheVariants.{Quadratic}
+use Rattle.fold_theory.specs.Programs.{Program, Brick}
+use Rattle.brick_phase.specs.Bounds.{AreBetween}
+use Rattle.brick_phase.specs.Moves.{with_opposites}
+use Rattle.brick_phase.specs.Settled.{IsBrickEnd}
+
+-- (2 -1) lies between (1 -1) and (2 0)
+lies_between : AreBetween (pos 1 ∷ negsuc 0 ∷ []) (pos 2 ∷ pos 0 ∷ []) (pos 2 ∷ negsuc 0 ∷ [])
+lies_between = ((record { le = tt }, (record { le = tt }, tt)), (record { le = tt }, (record { le = tt }, tt)))
+
+-- each vector is followed by its opposite
+both_signs : with_opposites ((pos 0 ∷ pos 1 ∷ []) ∷ (pos 1 ∷ negsuc 0 ∷ []) ∷ [])
+    ≡ (pos 0 ∷ pos 1 ∷ []) ∷ (pos 0 ∷ negsuc 0 ∷ []) ∷ (pos 1 ∷ negsuc 0 ∷ []) ∷ (negsuc 0 ∷ pos 1 ∷ []) ∷ []
+both_signs = refl
+
+-- ---- a brick of one column and no row, with bounds 2 and 5
+
+abbrev brick : Brick
+brick = record { lower = pos 2 ∷ []; upper = pos 5 ∷ []; right = []; costs = Quadratic (pos 0) (pos 0) (pos 0) ∷ [] }
+
+abbrev program : Program
+program = record {
+  link = record { cols = 1; rows = [] };
+  link_right = [];
+  brick = record { cols = 1; rows = [] };
+  bricks = brick ∷ [];
+}
+
+-- it starts at 2, has no row to miss, and takes no step
+settles_at_once : IsBrickEnd program ((pos 1 ∷ []) ∷ []) 1 [] (pos 2 ∷ []) 0
+settles_at_once = (brick, refl, (λ m step. absurd (omega (arith, step.lowers)), refl), refl)

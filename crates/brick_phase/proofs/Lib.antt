@@ -1,0 +1,6 @@
+mod KnownValues
+mod BoundLaws
+mod OrderLaws
+mod MoveLaws
+mod OfferLaws
+mod SettleLaws

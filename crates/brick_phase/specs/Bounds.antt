@@ -1,0 +1,14 @@
+-- Where a vector lies between two others, place by place.
+use Rattle.std.specs.Prelude.{◌≡◌, ℤ, ◌≤ℤ◌, Option, MatchOption, Vec}
+use Rattle.std.specs.List.{AllZip}
+use Rattle.std.specs.declared.alloc.Global.{Global}
+use Rattle.lattice_theory.specs.Vectors.{Vector}
+
+-- the vector is within these bounds
+abbrev pub AreBetween : Vector → Vector → Vector → Type 0
+AreBetween lower upper v = AllZip ◌≤ℤ◌ lower v × AllZip ◌≤ℤ◌ v upper
+
+-- the answer is this vector where it is within the bounds, and none where it is not
+abbrev pub Leads : Vector → Vector → Vector → Option (Vec ℤ Global) → Type 0
+Leads lower upper end result =
+    MatchOption result (AreBetween lower upper end → ⊥) (λ v. AreBetween lower upper end × (v.items ≡ end))

@@ -1,0 +1,4 @@
+pub mod Bounds
+pub mod Moves
+pub mod Offers
+pub mod Settled
