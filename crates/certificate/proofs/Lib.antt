@@ -1,0 +1,6 @@
+mod ReadingLaws
+mod RowLaws
+mod WordLaws
+mod Printed
+mod RoundTrip
+mod KnownValues

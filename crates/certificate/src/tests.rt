@@ -1,0 +1,154 @@
+//! What no clause says: that calls succeed where there is ample memory, and texts from outside.
+
+use crate::{CertFault, CertKind, Certificate, Claim, parse, print};
+use mat_files::Matrix;
+use std::alloc::Global;
+use std::test::Fail;
+
+const TEXT: &str =
+    "nfold-certificate 1\nclaim infeasible-brick 1\npoint\n1 2\n4 4\nbricks\n3 3\n0 1 1\n1 -1 0\n1 0 1\nend\n";
+
+fn fault_of(alloc: Global, text: &[u8]) -> Option<CertFault> {
+    parse(alloc, text).err()
+}
+
+#[test]
+fn prints_line_by_line(rt: HostRuntime) -> Result<(), Fail> {
+    let alloc = rt.alloc();
+    let point = Matrix::new(1, 2, vec![in alloc; 4, 4]?);
+    let bricks = Matrix::new(3, 3, vec![in alloc; 0, 1, 1, 1, -1, 0, 1, 0, 1]?);
+    let text = print(alloc, &Certificate::on_brick(1, point, bricks))?;
+    assert_eq!(rt; text.as_slice(), TEXT.as_bytes());
+    Ok(())
+}
+
+#[test]
+fn reads_each_part(rt: HostRuntime) -> Result<(), Fail> {
+    let certificate = parse(rt.alloc(), TEXT.as_bytes())?;
+    assert_eq!(rt; certificate.claim(), Claim::InfeasibleBrick { brick: 1 });
+    let point = certificate.point();
+    assert_eq!(rt; (point.rows(), point.cols()), (1, 2));
+    assert_eq!(rt; point.entries(), [4, 4].as_slice());
+    let bricks = certificate.bricks();
+    assert_eq!(rt; (bricks.rows(), bricks.cols()), (3, 3));
+    assert_eq!(rt; bricks.entries(), [0, 1, 1, 1, -1, 0, 1, 0, 1].as_slice());
+    Ok(())
+}
+
+#[test]
+fn other_spellings_are_accepted(rt: HostRuntime) -> Result<(), Fail> {
+    let text =
+        b"\tnfold-certificate 1 claim infeasible-brick +010000 point 1\t02 +4611686018427387904 004 bricks 0 48 end";
+    let certificate = parse(rt.alloc(), text.as_slice())?;
+    assert_eq!(rt;
+        certificate.claim(),
+        Claim::InfeasibleBrick { brick: 10_000 }
+    );
+    assert_eq!(rt; certificate.point().entries(), [1 << 62, 4].as_slice());
+    Ok(())
+}
+
+#[test]
+fn a_text_that_is_cut_ends_early(rt: HostRuntime) {
+    let text = TEXT.as_bytes();
+    let last = text.len() - b"end\n".len();
+    for at in 0..last {
+        if at == 0 || text[at] == b' ' || text[at] == b'\n' {
+            let fault = CertFault {
+                at,
+                kind: CertKind::EndsEarly,
+            };
+            assert_eq!(rt; fault_of(rt.alloc(), &text[..at]), Some(fault));
+        }
+    }
+}
+
+#[test]
+fn names_the_first_fault_of_a_word_or_a_size(rt: HostRuntime) {
+    let cases = [
+        (b"nfold-certificate 01 claim".as_slice(), 18, CertKind::Word),
+        (b"nfold-certificate +1 claim".as_slice(), 18, CertKind::Word),
+        (
+            b"nfold-certificate 1 claim optimal".as_slice(),
+            26,
+            CertKind::Word,
+        ),
+        (
+            b"nfold-certificate 1 claim infeasible-link".as_slice(),
+            26,
+            CertKind::Word,
+        ),
+        (
+            b"nfold-certificate 1 claim infeasible-brick -1".as_slice(),
+            43,
+            CertKind::NotNumber,
+        ),
+        (
+            b"nfold-certificate 1 claim infeasible-brick 10001".as_slice(),
+            43,
+            CertKind::TooBig,
+        ),
+        (
+            b"nfold-certificate 1 claim infeasible-brick 1 point 10001".as_slice(),
+            51,
+            CertKind::TooMany,
+        ),
+        (
+            b"nfold-certificate 1 claim infeasible-brick 1 point 1 33".as_slice(),
+            53,
+            CertKind::TooMany,
+        ),
+        (
+            b"nfold-certificate 1 claim infeasible-brick 1 point 1 -1".as_slice(),
+            53,
+            CertKind::NotNumber,
+        ),
+    ];
+    for (text, at, kind) in cases {
+        assert_eq!(rt; fault_of(rt.alloc(), text), Some(CertFault { at, kind }));
+    }
+}
+
+#[test]
+fn names_the_first_fault_of_what_follows(rt: HostRuntime) {
+    let cases = [
+        (
+            b"nfold-certificate 1 claim infeasible-brick 1 point 1 1 x".as_slice(),
+            55,
+            CertKind::NotNumber,
+        ),
+        (
+            b"nfold-certificate 1 claim infeasible-brick 1 point 1 1 4611686018427387905".as_slice(),
+            55,
+            CertKind::TooBig,
+        ),
+        (
+            b"nfold-certificate 1 claim infeasible-brick 1 point 0 1 bricks 2001".as_slice(),
+            62,
+            CertKind::TooMany,
+        ),
+        (
+            b"nfold-certificate 1 claim infeasible-brick 1 point 0 1 bricks 1 49".as_slice(),
+            64,
+            CertKind::TooMany,
+        ),
+        (
+            b"nfold-certificate 1 claim infeasible-brick 1 point 0 1 bricks 1 1 -2147483648".as_slice(),
+            66,
+            CertKind::TooBig,
+        ),
+        (
+            b"nfold-certificate 1 claim infeasible-brick 1 point 0 1 links".as_slice(),
+            55,
+            CertKind::Word,
+        ),
+        (
+            b"nfold-certificate 1 claim infeasible-brick 1 point 0 1 bricks 0 1 end end".as_slice(),
+            70,
+            CertKind::Extra,
+        ),
+    ];
+    for (text, at, kind) in cases {
+        assert_eq!(rt; fault_of(rt.alloc(), text), Some(CertFault { at, kind }));
+    }
+}
