@@ -1,0 +1,23 @@
+-- Where the checker says yes, its verdict is true of the program.
+use Rattle.std.proofs.Common.{◌≡◌, ℕ, Option, Some, None, Result, Ok, Err, IfOk, refl, sym, subst}
+use Rattle.fold_theory.specs.declared.Rule.{Rule}
+use Rattle.fold_theory.specs.declared.Claim.TheVariants as claim
+use Rattle.fold_theory.specs.Programs.{Program, IsProgram}
+use Rattle.fold_theory.specs.Certificates.{Certificate}
+use Rattle.fold_theory.specs.Checker.{Accept, first_broken, claimed_verdict}
+use Rattle.fold_theory.specs.Verdicts.{Holds}
+use Rattle.fold_laws.proofs.BrickMisses.{accepted_holds}
+use Rattle.cert_checker.specs.declared.answer.Check.{Check}
+use Rattle.cert_checker.specs.declared.answer.Check.TheVariants.{Yes, No}
+use Rattle.cert_checker.specs.Answers.{checked, IsTrueYes}
+
+by_rule : (p : Program) (c : Certificate) (o : Option Rule) → first_broken p c ≡ o → (Accept p c → Holds p (claimed_verdict p c))
+    → IsTrueYes p (elim o [ None ↦ Yes (claimed_verdict p c) | Some rule ↦ No rule ])
+by_rule p c None is holds = holds is
+by_rule p c (Some rule) is holds = tt
+
+pub yes_holds : {E : Type 0} (r : Result Check E) (p : Program) (c : Certificate) (i : ℕ) → IsProgram p → c.claim ≡ claim.InfeasibleBrick i
+    → IfOk r (λ a. a ≡ checked p c) → IfOk r (IsTrueYes p)
+yes_holds (Err e) p c i program claims is = tt
+yes_holds (Ok a) p c i program claims is =
+    subst (IsTrueYes p) (sym is) (by_rule p c (first_broken p c) refl (accepted_holds p c i program claims))

@@ -1,0 +1,16 @@
+//! The checker of certificates: it reads a program and a certificate, and confirms what the certificate
+//! claims, or names the first rule that it breaks. It stands on nothing of the solver.
+#![tactic(auto)]
+
+mod answer;
+mod checking;
+mod completeness;
+mod reduction;
+mod steps;
+
+pub use answer::Check;
+pub use checking::check;
+pub use fold_theory::{Rule, Verdict};
+
+#[cfg(test)]
+mod tests;
