@@ -3,7 +3,7 @@
 #![tactic(auto)]
 
 use fold_shelf::{FolderShelf, OpenGate, StreamSink};
-use nfold_cli::{Status, run};
+use nfold_cli::run;
 use std::process::ExitCode;
 use std::{env, io};
 
@@ -26,7 +26,7 @@ fn main(rt: HostRuntime) -> ExitCode {
         &mut err,
         &OpenGate,
     );
-    ExitCode::from(number(status))
+    ExitCode::from(status.number())
 }
 
 /// The words without the program's own name.
@@ -36,18 +36,4 @@ fn words(rt: &HostRuntime) -> io::Result<Vec<Vec<u8>>> {
         words.push(word.into_bytes())?;
     }
     Ok(words)
-}
-
-/// The number with which the program ends.
-fn number(status: Status) -> u8 {
-    match status {
-        Status::Done => 0,
-        Status::No => 1,
-        Status::Usage => 2,
-        Status::Input => 3,
-        Status::Limit => 4,
-        Status::ReadFault => 5,
-        Status::WriteFault => 6,
-        Status::Memory => 7,
-    }
 }

@@ -1,10 +1,10 @@
 -- The ending of a run at files worked by hand: a program of two bricks, and points of it.
-use Rattle.std.specs.Prelude.{◌≡◌, ℕ, List, [], ◌∷◌, codes, refl}
+use Rattle.std.specs.Prelude.{◌≡◌, ℕ, List, [], ◌∷◌, ◌++◌, codes, refl}
 use Rattle.std.specs.Fmt.{digits}
 use Rattle.fold_shelf.specs.Outside.{File, without}
 use Rattle.nfold_cli.specs.declared.status.Status.TheVariants as status
 use Rattle.nfold_cli.specs.Texts.{usage_text}
-use Rattle.nfold_cli.specs.Endings.{ending, point_ending, IsEnding}
+use Rattle.nfold_cli.specs.Endings.{ending, point_ending, check_ending, IsEnding}
 
 abbrev file_of : List ℕ → List ℕ → File
 file_of name bytes = record { name = name; bytes = bytes }
@@ -49,6 +49,35 @@ no_costs = refl
 pub empty_point : point_ending (files_at []) (codes "t") ≡ ending status.Input (codes "input: t.pt: ends-early at 0\n")
 unfolding digits
 empty_point = refl
+
+-- ---- the claim that the first brick cannot meet its row
+
+-- the files where that brick's right side is 9, and the certificate's claim and point are these
+abbrev claimed_at : List ℕ → List ℕ → List File
+claimed_at claim point =
+    file_of (codes "t.link.mat") (codes "1 2 1 0")
+    ∷ file_of (codes "t.brick.mat") (codes "1 2 1 1")
+    ∷ file_of (codes "t.lb") (codes "2 2 0 0 0 0")
+    ∷ file_of (codes "t.ub") (codes "2 2 4 4 4 4")
+    ∷ file_of (codes "t.rhs") (codes "1 3 3 9 4")
+    ∷ file_of (codes "t.cost") (codes "2 2 q 1 0 0 q 0 0 0 q 1 0 0 q 0 0 0")
+    ∷ file_of (codes "t.cert") (codes "nfold-certificate 1 claim " ++ claim ++ codes " point 1 2 " ++ point ++ codes " bricks 3 3 0 1 1 1 -1 0 1 0 1 end")
+    ∷ []
+
+pub shown : check_ending (claimed_at (codes "infeasible-brick 1") (codes "4 4")) (codes "t") ≡ ending status.Done (codes "yes infeasible brick 1 residual 1\n")
+unfolding digits
+shown = refl
+
+pub a_step_helps : check_ending (claimed_at (codes "infeasible-brick 1") (codes "4 3")) (codes "t") ≡ ending status.No (codes "no B2\n")
+unfolding digits
+a_step_helps = refl
+
+pub no_such_claim : check_ending (claimed_at (codes "infeasible") (codes "4 4")) (codes "t") ≡ ending status.Input (codes "input: t.cert: word at 26\n")
+unfolding digits
+no_such_claim = refl
+
+pub no_certificate : check_ending (files_at []) (codes "t") ≡ ending status.ReadFault (codes "read: t.cert\n")
+no_certificate = refl
 
 -- words that are no form end in the usage, whatever the files are
 pub no_words : (files : List File) → IsEnding [] files (ending status.Usage usage_text)

@@ -4,7 +4,7 @@ use Rattle.std.specs.Fmt.{digits}
 use Rattle.fold_theory.specs.declared.Broken.TheVariants.{Below, Above, BrickRow, LinkRow}
 use Rattle.mat_files.specs.declared.fault.MatFault.TheVariants as mat
 use Rattle.convex_costs.specs.declared.fault.CostFault.TheVariants as cost
-use Rattle.nfold_cli.specs.Words.{Word, PointForm, form_of}
+use Rattle.nfold_cli.specs.Words.{Word, PointForm, GraverForm, CheckForm, form_of}
 use Rattle.nfold_cli.specs.Texts.{point_text, at_byte, at_column, mat_fault_text, cost_fault_text, input_text, read_text}
 
 -- ---- words
@@ -29,6 +29,39 @@ dash_first = refl
 
 pub two_prefixes : form_of (point_and (codes "t" ∷ codes "t" ∷ [])) ≡ None
 two_prefixes = refl
+
+abbrev graver_and : List Word → List Word
+graver_and rest = codes "graver" ∷ codes "m" ∷ rest
+
+pub graver_without_a_limit : form_of (graver_and []) ≡ Some (GraverForm (codes "m") 500)
+graver_without_a_limit = refl
+
+pub graver_with_a_limit : form_of (graver_and (codes "--max-basis" ∷ codes "0008" ∷ [])) ≡ Some (GraverForm (codes "m") 8)
+graver_with_a_limit = refl
+
+pub greatest_limit : form_of (graver_and (codes "--max-basis" ∷ codes "2000" ∷ [])) ≡ Some (GraverForm (codes "m") 2000)
+greatest_limit = refl
+
+pub limit_too_great : form_of (graver_and (codes "--max-basis" ∷ codes "2001" ∷ [])) ≡ None
+limit_too_great = refl
+
+pub limit_of_none : form_of (graver_and (codes "--max-basis" ∷ codes "0" ∷ [])) ≡ None
+limit_of_none = refl
+
+pub ten_digits : form_of (graver_and (codes "--max-basis" ∷ codes "0000000008" ∷ [])) ≡ None
+ten_digits = refl
+
+pub limit_with_a_sign : form_of (graver_and (codes "--max-basis" ∷ codes "+8" ∷ [])) ≡ None
+limit_with_a_sign = refl
+
+pub limit_without_a_value : form_of (graver_and (codes "--max-basis" ∷ [])) ≡ None
+limit_without_a_value = refl
+
+pub limit_twice : form_of (graver_and (codes "--max-basis" ∷ codes "8" ∷ codes "--max-basis" ∷ codes "8" ∷ [])) ≡ None
+limit_twice = refl
+
+pub check_with_a_prefix : form_of (codes "check" ∷ codes "t" ∷ []) ≡ Some (CheckForm (codes "t"))
+check_with_a_prefix = refl
 
 pub no_form_yet : form_of (codes "solve" ∷ codes "t" ∷ []) ≡ None
 no_form_yet = refl

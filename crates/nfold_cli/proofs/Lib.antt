@@ -2,5 +2,6 @@ pub mod PrefixLaws
 mod ReadLaws
 mod AnswerLaws
 mod SayLaws
+mod EndingLaws
 mod KnownValues
 mod KnownEndings

@@ -1,13 +1,13 @@
 -- What is said of an answer that was given.
-use Rattle.std.proofs.Common.{◌≡◌, ◌≢◌, ℕ, List, Option, refl, ap, sym, subst, ◌∙◌, inl, inr}
+use Rattle.std.proofs.Common.{◌≡◌, ◌≢◌, ℕ, List, Option, Some, None, refl, ap, sym, subst, ◌∙◌, inl, inr}
 use Rattle.fold_shelf.specs.Outside.{File, without, ForTold, ForBoth, TookPart}
 use Rattle.fold_files.proofs.ToldLaws.{ForTold-weaker}
 use Rattle.nfold_cli.specs.declared.status.Status.{Status}
 use Rattle.nfold_cli.specs.declared.status.Status.TheVariants as status
 use Rattle.nfold_cli.specs.Texts.{write_text}
-use Rattle.nfold_cli.specs.Words.{Word}
+use Rattle.nfold_cli.specs.Words.{Word, FormValue}
 use Rattle.nfold_cli.specs.Endings.{Ending, IsEnding, read_ending}
-use Rattle.nfold_cli.specs.Running.{SomeEnding, IsWritten, IsRefusal, IsMessage, StopsReading, Says}
+use Rattle.nfold_cli.specs.Running.{SomeEnding, IsWritten, IsRefusal, IsMessage, StopsReading, Says, AnswersForm}
 use Rattle.nfold_cli.specs.Answers.{IsAnswer, IsLine}
 
 module _ (words : List Word) (fs : List File) (before now : ℕ) (e : Ending) (answer : IsAnswer (IsEnding words) fs before now e) where
@@ -54,3 +54,17 @@ pub says_told : (words : List Word) (files : Option (List File)) (before now : �
     → ForTold files (λ fs. Says words fs before now told_before told_now said s)
 says_told words files before now e told_before told_now said s answer written refusal write memory =
     ForTold-weaker files _ _ (λ fs a. says words fs before now e a told_before told_now said s written refusal write memory) answer
+
+-- an answer that was given is one for the form
+pub answers_form : (form : Option FormValue) (s a : Status) → AnswersForm form a → (IsWritten s → s ≡ a) → (IsRefusal s → s ≡ a)
+    → (s ≡ status.WriteFault → IsWritten a) → AnswersForm form s
+answers_form (Some f) s a answers written refused broken = λ usage. answers (sym (refused (subst IsRefusal (sym usage) tt)) ∙ usage)
+answers_form None status.Done a answers written refused broken = subst (AnswersForm None) (sym (written tt)) answers
+answers_form None status.No a answers written refused broken = subst (AnswersForm None) (sym (written tt)) answers
+answers_form None status.Usage a answers written refused broken = inl refl
+answers_form None status.Input a answers written refused broken = subst (AnswersForm None) (sym (refused tt)) answers
+answers_form None status.Limit a answers written refused broken = subst (AnswersForm None) (sym (refused tt)) answers
+answers_form None status.ReadFault a answers written refused broken = subst (AnswersForm None) (sym (refused tt)) answers
+answers_form None status.WriteFault a (inl usage) written refused broken = absurd (subst IsWritten usage (broken refl))
+answers_form None status.WriteFault a (inr memory) written refused broken = absurd (subst IsWritten memory (broken refl))
+answers_form None status.Memory a answers written refused broken = inr refl

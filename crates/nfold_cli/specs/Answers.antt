@@ -7,7 +7,7 @@ use Rattle.fold_program.specs.declared.FileKind.{FileKind}
 use Rattle.fold_program.specs.Files.{suffix_of}
 use Rattle.fold_files.specs.declared.ReadFault.{ReadFault}
 use Rattle.fold_files.specs.declared.ReadFault.TheVariants as read
-use Rattle.fold_files.specs.Reading.{Stop, program_in, point_in}
+use Rattle.fold_files.specs.Reading.{Stop, program_in, point_in, certificate_in}
 use Rattle.fold_files.specs.Causes.{stop_of}
 use Rattle.nfold_cli.specs.declared.status.Status.{Status}
 use Rattle.nfold_cli.specs.declared.status.Status.TheVariants as status
@@ -18,6 +18,10 @@ use Rattle.nfold_cli.specs.Running.{IsWritten, IsRefusal}
 -- the program in the files and the point of it, or why reading stops
 abbrev pub both_in : List File → List ℕ → Result (Program × Bricks) Stop
 both_in files prefix = and_then (program_in files prefix) (λ p. and_then (point_in files prefix p) (λ x. Ok (p, x.rows)))
+
+-- the program in the files and the bytes of its certificate, or why reading stops
+abbrev pub claimed_in : List File → List ℕ → Result (Program × List ℕ) Stop
+claimed_in files prefix = and_then (program_in files prefix) (λ p. and_then (certificate_in files prefix) (λ bytes. Ok (p, bytes)))
 
 -- a file that could not be read, where runs end by the files like this: it is absent or the count rose, and it is reached
 abbrev pub IsUnread : (List File → Ending → Type 0) → List File → ℕ → ℕ → List ℕ → Type 0

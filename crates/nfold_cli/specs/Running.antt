@@ -1,10 +1,17 @@
 -- What the top call answers, what it writes and what it says.
-use Rattle.std.specs.Prelude.{◌≡◌, ◌≢◌, ℕ, ◌⊎◌, List, Option, Some, None}
+use Rattle.std.specs.Prelude.{◌≡◌, ◌≢◌, ℕ, ◌⊎◌, List, Option, Some, None, Ok}
+use Rattle.fold_theory.specs.Programs.{Program}
+use Rattle.fold_theory.specs.Certificates.{Certificate}
+use Rattle.fold_theory.specs.Checker.{Accept, claimed_verdict}
+use Rattle.fold_theory.specs.Verdicts.{Holds}
 use Rattle.fold_shelf.specs.Outside.{File, Rose, ForBoth, IsTold, Took, TookPart, Lacks, without}
+use Rattle.fold_files.specs.Reading.{program_in, certificate_in}
+use Rattle.certificate.specs.CertificateText.{parsed_certificate}
+use Rattle.cert_checker.specs.declared.answer.Check.TheVariants as check
 use Rattle.nfold_cli.specs.declared.status.Status.{Status}
 use Rattle.nfold_cli.specs.declared.status.Status.TheVariants as status
-use Rattle.nfold_cli.specs.Texts.{write_text, memory_text}
-use Rattle.nfold_cli.specs.Words.{Word, FormValue}
+use Rattle.nfold_cli.specs.Texts.{write_text, memory_text, check_text}
+use Rattle.nfold_cli.specs.Words.{Word, FormValue, PointForm, GraverForm, CheckForm}
 use Rattle.nfold_cli.specs.Endings.{Ending, IsEnding, read_ending}
 
 -- there is an ending of these words and files of which this holds
@@ -40,6 +47,32 @@ AnswersForm (Some form) s = s ≢ status.Usage
 -- a fault of reading comes where the count rose, or where the told files end in one
 abbrev pub FailsReading : List Word → Option (List File) → ℕ → ℕ → Type 0
 FailsReading words files before now = Rose before now ⊎ IsTold files (λ fs. SomeEnding words fs (λ e. e.status ≡ status.ReadFault))
+
+-- the certificate breaks no rule, what it claims is true of the program, and the text says it
+pub record IsShown (p : Program) (c : Certificate) (text : List ℕ) : Type 0 where
+  pub accepted : Accept p c
+  pub holds : Holds p (claimed_verdict p c)
+  pub line : text ≡ check_text (check.Yes (claimed_verdict p c))
+
+-- so of the certificate that the bytes spell
+abbrev pub Confirms : Program → List ℕ → List ℕ → Type 0
+Confirms p bytes text = (c : Certificate) × (parsed_certificate bytes ≡ Ok c) × IsShown p c text
+
+-- and of the program and the certificate in the files
+abbrev pub IsConfirmed : List File → Word → List ℕ → Type 0
+IsConfirmed files prefix text =
+    (p : Program) × (bytes : List ℕ) × (program_in files prefix ≡ Ok p) × (certificate_in files prefix ≡ Ok bytes) × Confirms p bytes text
+
+-- what the text of a form that is done says is true of what the files hold
+abbrev pub IsTrueEnd : Option FormValue → List File → List ℕ → Type 0
+IsTrueEnd None files text = Unit {0}
+IsTrueEnd (Some (PointForm prefix)) files text = Unit {0}
+IsTrueEnd (Some (GraverForm prefix limit)) files text = Unit {0}
+IsTrueEnd (Some (CheckForm prefix)) files text = IsConfirmed files prefix text
+
+-- the output has taken a text that says what is true
+abbrev pub TookTrueEnd : Option FormValue → List File → List ℕ → List ℕ → Type 0
+TookTrueEnd form files before now = (text : List ℕ) × Took text before now × IsTrueEnd form files text
 
 -- what a told output has taken
 abbrev pub Leaves : List Word → List File → List ℕ → List ℕ → Status → Type 0

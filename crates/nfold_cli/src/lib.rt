@@ -2,15 +2,17 @@
 #![tactic(auto)]
 
 mod answering;
+mod laws;
 mod running;
 mod status;
 mod texts;
 mod words;
 
+pub use laws::one_ending;
 pub use running::run;
 pub use status::Status;
 pub use texts::{
-    at_byte, at_column, cost_fault_text, input_text, mat_fault_text, memory_text, point_text,
-    read_text, usage_text, write_text,
+    at_byte, at_column, basis_limit_text, cert_fault_text, check_text, cost_fault_text, input_text,
+    mat_fault_text, memory_text, point_text, read_text, usage_text, write_text,
 };
 pub use words::{Form, form_of};

@@ -1,9 +1,11 @@
 //! The lines that the program prints, and the words in them on what is wrong with a file. Each line ends with
 //! a line feed. Bricks, columns, rows and breakpoints are numbered from 1, and bytes from 0.
 
-ghost use Rattle.std.specs.Prelude.{◌≡◌, ◌++◌, IfOk};
+ghost use Rattle.std.specs.Prelude.{◌≡◌, ◌++◌, IfOk, codes};
 ghost use Rattle.nfold_cli.specs.Texts as specs;
 
+use cert_checker::{Check, Rule, Verdict};
+use certificate::{CertFault, CertKind};
 use convex_costs::CostFault;
 use fold_theory::Broken;
 use itoa::{Buffer, Integer};
@@ -11,6 +13,8 @@ use mat_files::MatFault;
 use std::alloc::{AllocError, Global};
 
 const USAGE: &[u8] = b"usage: nfold point P, graver M, solve P, check P, trial NUMBER N\n";
+
+const BASIS_LIMIT: &[u8] = b"limit: basis\n";
 
 const WRITE: &[u8] = b"write\n";
 
@@ -76,6 +80,79 @@ fn at_breakpoint(
     with_number(at_column(alloc, word, brick, col)?, b" point ", at)
 }
 
+/// What `check` prints: yes and the verdict, or no and the first rule that is broken.
+pub fn check_text(alloc: Global, answer: Check) -> Result<Vec<u8>, AllocError>
+    ensures { IfOk result (λ t. t.items ≡ specs.check_text answer) }
+{
+    match answer {
+        Check::Yes(verdict) => line(alloc, b"yes ", &verdict_text(alloc, verdict)?),
+        Check::No(rule) => line(alloc, b"no ", rule_name(rule)),
+    }
+}
+
+/// The line of these two texts.
+fn line(alloc: Global, first: &[u8], rest: &[u8]) -> Result<Vec<u8>, AllocError>
+    ensures { IfOk result (λ t. t.items ≡ first.now ++ rest.now ++ codes "\n") }
+{
+    let mut text = Vec::from_slice(alloc, first)?;
+    text.extend_from_slice(rest)?;
+    text.extend_from_slice(b"\n")?;
+    Ok(text)
+}
+
+fn verdict_text(alloc: Global, verdict: Verdict) -> Result<Vec<u8>, AllocError>
+    ensures { IfOk result (λ t. t.items ≡ specs.verdict_text verdict) }
+{
+    let text = Vec::new(alloc);
+    match verdict {
+        Verdict::Optimal { cost } => with_number(text, b"optimal cost ", cost),
+        Verdict::InfeasibleBrick { brick, residual } => {
+            let text = with_number(text, b"infeasible brick ", brick)?;
+            with_number(text, b" residual ", residual)
+        }
+        Verdict::InfeasibleLink { residual } => {
+            with_number(text, b"infeasible link residual ", residual)
+        }
+    }
+}
+
+fn rule_name(rule: Rule) -> &'static [u8]
+    ensures { result.now ≡ specs.rule_text rule }
+{
+    match rule {
+        Rule::C1 => b"C1",
+        Rule::C2 => b"C2",
+        Rule::C3 => b"C3",
+        Rule::C4 => b"C4",
+        Rule::C5 => b"C5",
+        Rule::C6 => b"C6",
+        Rule::C7 => b"C7",
+        Rule::B1 => b"B1",
+        Rule::B2 => b"B2",
+    }
+}
+
+/// What is wrong with a certificate, and where. Want of memory is no fault of the file, and its text says nothing.
+pub fn cert_fault_text(alloc: Global, fault: CertFault) -> Result<Vec<u8>, AllocError>
+    ensures { IfOk result (λ t. t.items ≡ specs.cert_fault_text fault) }
+{
+    at_byte(alloc, cert_kind_name(fault.kind), fault.at)
+}
+
+fn cert_kind_name(kind: CertKind) -> &'static [u8]
+    ensures { result.now ≡ specs.cert_kind_text kind }
+{
+    match kind {
+        CertKind::Word => b"word",
+        CertKind::NotNumber => b"not-number",
+        CertKind::TooBig => b"too-big",
+        CertKind::EndsEarly => b"ends-early",
+        CertKind::Extra => b"extra",
+        CertKind::TooMany => b"too-many",
+        CertKind::Memory => b"",
+    }
+}
+
 /// What is wrong with a matrix file, and where. Want of memory is no fault of the file, and has no text.
 pub fn mat_fault_text(alloc: Global, fault: MatFault) -> Result<Vec<u8>, AllocError>
     ensures { IfOk result (λ t. t.items ≡ specs.mat_fault_text fault) }
@@ -129,6 +206,13 @@ pub fn read_text(alloc: Global, file: &[u8]) -> Result<Vec<u8>, AllocError>
     text.extend_from_slice(file)?;
     text.extend_from_slice(b"\n")?;
     Ok(text)
+}
+
+/// The line on a slack basis that passes its limit.
+pub fn basis_limit_text() -> &'static [u8]
+    ensures { result.now ≡ specs.basis_limit_text }
+{
+    BASIS_LIMIT
 }
 
 /// The line on a write that failed.
@@ -196,6 +280,29 @@ mod tests {
     }
 
     #[test]
+    fn check_says_yes_or_which_rule_is_broken(rt: HostRuntime) -> Result<(), Fail> {
+        let brick = Verdict::InfeasibleBrick {
+            brick: 2,
+            residual: 17,
+        };
+        for (answer, line) in [
+            (Check::Yes(brick), "yes infeasible brick 2 residual 17\n"),
+            (
+                Check::Yes(Verdict::Optimal { cost: -5 }),
+                "yes optimal cost -5\n",
+            ),
+            (Check::No(Rule::B2), "no B2\n"),
+        ] {
+            let text = check_text(rt.alloc(), answer)?;
+            assert_eq!(rt; text.as_slice(), line.as_bytes());
+        }
+        let (at, kind) = (40, CertKind::TooMany);
+        let text = cert_fault_text(rt.alloc(), CertFault { at, kind })?;
+        assert_eq!(rt; text.as_slice(), b"too-many at 40".as_slice());
+        Ok(())
+    }
+
+    #[test]
     fn a_refused_file_is_named_with_the_place(rt: HostRuntime) -> Result<(), Fail> {
         let alloc = rt.alloc();
         let bound = mat_fault_text(alloc, MatFault::NoBound { at: 6 })?;
@@ -227,6 +334,7 @@ mod tests {
     fn other_faults_have_a_line(rt: HostRuntime) -> Result<(), Fail> {
         let read = read_text(rt.alloc(), b"t.pt")?;
         assert_eq!(rt; read.as_slice(), b"read: t.pt\n".as_slice());
+        assert_eq!(rt; basis_limit_text(), b"limit: basis\n".as_slice());
         assert_eq!(rt; write_text(), b"write\n".as_slice());
         assert_eq!(rt; memory_text(), b"memory\n".as_slice());
         let usage = b"usage: nfold point P, graver M, solve P, check P, trial NUMBER N\n";

@@ -1,6 +1,6 @@
 use Rattle.std.proofs.Common.{map}
 use Rattle.nfold_cli.specs.Running.{Said}
-use Rattle.nfold_cli.proofs.SayLaws.{says_told}
+use Rattle.nfold_cli.proofs.SayLaws.{says_told, answers_form}
 use Rattle.nfold_cli.proofs.running.run.Goals as goal
 
 pub returns-in-Ok-clause-said : goal.returns-in-Ok-clause-said
@@ -12,3 +12,10 @@ returns-in-Ok-clause-said g c =
     (λ refusal. ((c.give.ensures.refused refusal).0, (c.give.ensures.refused refusal).2))
     (λ same. (c.give.ensures.broken same).3)
     (λ same. (c.give.ensures.memory same).1)
+
+pub returns-in-Ok-clause-form : goal.returns-in-Ok-clause-form
+returns-in-Ok-clause-form g c =
+    answers_form _ c.give.result _ c.in-Ok.ensures.form
+    (λ written. (c.give.ensures.written written).0)
+    (λ refusal. (c.give.ensures.refused refusal).0)
+    (λ same. (c.give.ensures.broken same).0)
