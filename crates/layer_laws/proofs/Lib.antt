@@ -1,0 +1,5 @@
+pub mod Orders
+pub mod Walks
+pub mod BestWalks
+pub mod Candidates
+pub mod BestSteps
