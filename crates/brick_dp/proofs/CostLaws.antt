@@ -1,0 +1,106 @@
+-- The cost of a brick, column by column.
+use Rattle.std.proofs.Common.{◌≡◌, ℕ, suc, ◌+◌, ◌-◌, ◌<◌, ◌≤◌, ℤ, pos, ◌+ℤ◌, ◌≤ℤ◌, List, [], ◌∷◌, length, drop, get_or, refl, ap, arith, sym, ◌∙◌, All, Option, Some, slice_get, subst}
+use Rattle.std.proofs.lemmas.Int.{ints}
+use Rattle.std.proofs.lemmas.List.{drop_all}
+use Rattle.std.proofs.lemmas.List.Elements.{AllZip-get_or}
+use Rattle.std.proofs.lemmas.Option.{slice_get-get_or, slice_get_within, get_or_from_slice_get}
+use Rattle.std.proofs.Math.Seq.{drop-cons}
+use Rattle.lattice_theory.specs.Lists.{sum_zip}
+use Rattle.lattice_theory.specs.Vectors.{Vector}
+use Rattle.fold_theory.specs.declared.Cost.{Cost}
+use Rattle.fold_theory.specs.Costs.{value}
+use Rattle.fold_theory.specs.Programs.{Program, IsProgram, Brick, IsBrick, IsWithin, brick_cost}
+use Rattle.fold_program.specs.Places.{OfBrick, OfColumn}
+use Rattle.brick_dp.specs.Changes.{ForBrick}
+
+pub same_brick : (o : Option Brick) (a b : Brick) → o ≡ Some a → o ≡ Some b → a ≡ b
+same_brick o a b p q = cc
+
+same_cost : (o : Option Cost) (a b : Cost) → o ≡ Some a → o ≡ Some b → a ≡ b
+same_cost o a b p q = cc
+
+-- there is a brick of each number, and it fits
+pub brick_there : (p : Program) (i : ℕ) → IsProgram p → 1 ≤ i → i ≤ length p.bricks →
+    (b : Brick) × (slice_get p.bricks (i - 1) ≡ Some b) × IsBrick p.link.cols (length p.brick.rows) b
+brick_there p i program from to = by p.bricks (i - 1) (omega arith) program.each_brick
+  where
+    by : (bs : List Brick) (k : ℕ) → k < length bs → All (IsBrick p.link.cols (length p.brick.rows)) bs →
+        (b : Brick) × (slice_get bs k ≡ Some b) × IsBrick p.link.cols (length p.brick.rows) b
+    by [] k low fit = absurd (omega arith)
+    by (b ∷ bs) k low fit = (get_or (b ∷ bs) k b, slice_get-get_or (b ∷ bs) k b low, fit k b low)
+
+-- a column of a vector within the bounds of its brick
+pub column_within : (p : Program) (i j : ℕ) (v : Vector) (a : ℤ) → IsProgram p → 1 ≤ i → i ≤ length p.bricks → 1 ≤ j → j ≤ p.link.cols →
+    length v ≡ p.link.cols → ForBrick p i (λ b. IsWithin b v) → a ≡ get_or v (j - 1) (pos 0) →
+    OfColumn p i j (λ lower upper cost. (lower ≤ℤ a) × (a ≤ℤ upper))
+column_within p i j v a program from to left right width within is =
+    let found = brick_there p i program from to in
+    let b : Brick = found.0 in
+    let fit = found.2 in
+    let inside = within b found.1 in
+    let low : get_or b.lower (j - 1) (pos 0) ≤ℤ get_or v (j - 1) (pos 0) =
+    AllZip-get_or ◌≤ℤ◌ b.lower v (j - 1) (pos 0) (pos 0) inside.0 (omega (arith, fit.lower_size)) in
+    let high : get_or v (j - 1) (pos 0) ≤ℤ get_or b.upper (j - 1) (pos 0) =
+    AllZip-get_or ◌≤ℤ◌ v b.upper (j - 1) (pos 0) (pos 0) inside.1 (omega (arith, width)) in
+    by b found.1 fit (subst (λ z. get_or b.lower (j - 1) (pos 0) ≤ℤ z) (sym is) low) (subst (λ z. z ≤ℤ get_or b.upper (j - 1) (pos 0)) (sym is) high)
+  where
+    cost_there : (cs : List Cost) (k : ℕ) → k < length cs → (c : Cost) × (slice_get cs k ≡ Some c)
+    cost_there [] k low = absurd (omega arith)
+    cost_there (c ∷ cs) k low = (get_or (c ∷ cs) k c, slice_get-get_or (c ∷ cs) k c low)
+
+    by : (b : Brick) → slice_get p.bricks (i - 1) ≡ Some b → IsBrick p.link.cols (length p.brick.rows) b →
+        get_or b.lower (j - 1) (pos 0) ≤ℤ a → a ≤ℤ get_or b.upper (j - 1) (pos 0) → OfColumn p i j (λ lower upper cost. (lower ≤ℤ a) × (a ≤ℤ upper))
+    by b there fit low high =
+        let c = cost_there b.costs (j - 1) (omega (arith, fit.costs_size)) in (
+          b,
+          get_or b.lower (j - 1) (pos 0),
+          get_or b.upper (j - 1) (pos 0),
+          c.0,
+          there,
+          slice_get-get_or b.lower (j - 1) (pos 0) (omega (arith, fit.lower_size)),
+          slice_get-get_or b.upper (j - 1) (pos 0) (omega (arith, fit.upper_size)),
+          c.1,
+          (low, high),
+        )
+
+-- what is left of the cost of a brick, from column j on
+abbrev pub cost_from : ℕ → Brick → Vector → ℤ
+cost_from j b v = sum_zip value (drop (j - 1) b.costs) (drop (j - 1) v)
+
+-- the sum so far and what is left of it are the cost of the brick
+abbrev pub SumsTo : Program → ℕ → Vector → ℕ → ℤ → Type 0
+SumsTo p i v j cost = (b : Brick) → slice_get p.bricks (i - 1) ≡ Some b → cost +ℤ cost_from j b v ≡ brick_cost b v
+
+pub sums_none : (p : Program) (i : ℕ) (v : Vector) → SumsTo p i v 1 (pos 0)
+sums_none p i v b there = omega (arith, ints)
+
+drop_at : {A : Type 0} (xs : List A) (k : ℕ) (x : A) → slice_get xs k ≡ Some x → drop k xs ≡ x ∷ drop (k + 1) xs
+drop_at xs k x e =
+    let low = slice_get_within xs k x e in
+    let is = get_or_from_slice_get xs k x x e in
+    let next : suc k ≡ k + 1 = omega arith in
+    drop-cons xs k x low ∙ ap (λ n. get_or xs k x ∷ drop n xs) next ∙ ap (λ y. y ∷ drop (k + 1) xs) is
+
+pub sums_more : (p : Program) (i j : ℕ) (v : Vector) (cost next a result : ℤ) → 1 ≤ j → j - 1 < length v → a ≡ get_or v (j - 1) (pos 0) →
+    OfColumn p i j (λ lower upper cost. result ≡ value cost a) → next ≡ cost +ℤ result → SumsTo p i v j cost → SumsTo p i v (j + 1) next
+sums_more p i j v cost next a result from inside is column sum so_far b there =
+    let same : column.0 ≡ b = same_brick _ column.0 b column.4 there in
+    let costs : slice_get b.costs (j - 1) ≡ Some column.3 = ap (λ (d : Brick). slice_get d.costs (j - 1)) (sym same) ∙ column.7 in
+    let here : drop (j - 1) b.costs ≡ column.3 ∷ drop (j - 1 + 1) b.costs = drop_at b.costs (j - 1) column.3 costs in
+    let entry : drop (j - 1) v ≡ a ∷ drop (j - 1 + 1) v = drop_at v (j - 1) a (slice_get-get_or v (j - 1) (pos 0) inside ∙ ap Some (sym is)) in
+    let index : j + 1 - 1 ≡ j - 1 + 1 = omega arith in
+    let split : cost_from j b v ≡ value column.3 a +ℤ sum_zip value (drop (j - 1 + 1) b.costs) (drop (j - 1 + 1) v) =
+    (λ k. sum_zip value (here k) (entry k)) in
+    let rest : cost_from (j + 1) b v ≡ sum_zip value (drop (j - 1 + 1) b.costs) (drop (j - 1 + 1) v) = ap (λ n. sum_zip value (drop n b.costs) (drop n v)) index in
+    omega (arith, ints, so_far b there, split, rest, sum, column.8)
+
+pub sums_all : (p : Program) (i j : ℕ) (v : Vector) (cost : ℤ) → IsProgram p → 1 ≤ i → i ≤ length p.bricks → length v ≤ j - 1 → SumsTo p i v j cost →
+    OfBrick p i (λ b. cost ≡ brick_cost b v)
+sums_all p i j v cost program from to end so_far =
+    let found = brick_there p i program from to in
+    let empty : cost_from j found.0 v ≡ pos 0 = ap (λ us. sum_zip value (drop (j - 1) (found.0).costs) us) (drop_all (j - 1) v end) ∙ none (drop (j - 1) (found.0).costs) in
+    (found.0, found.1, omega (arith, ints, so_far found.0 found.1, empty))
+  where
+    none : (cs : List Cost) → sum_zip value cs [] ≡ pos 0
+    none [] = refl
+    none (c ∷ cs) = refl
