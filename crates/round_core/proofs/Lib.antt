@@ -1,0 +1,9 @@
+mod Decided
+mod Stands
+pub mod Order
+mod Places
+mod Kept
+mod Bounds
+pub mod EachEvent
+pub mod Ends
+mod KnownValues

@@ -1,0 +1,4 @@
+pub mod Rounds
+pub mod Allowed
+pub mod Steps
+pub mod Sound
