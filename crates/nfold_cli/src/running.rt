@@ -19,9 +19,11 @@ use std::thread::Threads;
 /// byte is written; after a fault of writing `out` has taken a first part of it.
 ///
 /// `Usage` comes exactly where the words are no form, `Input` where a file is refused, in the order in which files are
-/// read; `ReadFault` only where a file is missing or the shelf has counted a fault in this call, `WriteFault` only where
-/// `out` has, and `Memory` may come at any time. A fault of `err` changes no answer. No command starts a worker yet, so
-/// threads and the gate are not used.
+/// read, and `Limit` where the slack basis of `graver` passes its limit; `No` where the point is broken, or the certificate
+/// breaks a rule. `ReadFault` comes only where a file is missing or the shelf has counted a fault in this call,
+/// `WriteFault` only where `out` has, and `Memory` may come at any time. A fault of `err` changes no answer. Where `check`
+/// ends with `Done`, the verdict that it printed is true of the program. No command starts a worker yet, so threads and the
+/// gate are not used.
 pub fn run<R: Threads + Sync, S: Shelf, K: Sink, E: Sink, G: Gate>(
     _rt: &R,
     alloc: Global,
