@@ -1,6 +1,0 @@
-use Rattle.std.proofs.Common.{◌≡◌, take}
-use Rattle.fold_theory.specs.Programs.{link_rests}
-use Rattle.brick_dp.proofs.ends.rests.Given as goal
-
-abbrev pub invariant-loop-row : goal.invariant-loop-row
-invariant-loop-row l = l.rests.items ≡ take l.row (link_rests l.program l.point)
