@@ -1,0 +1,24 @@
+-- The Graver basis at a matrix worked by hand: the row (1 2).
+use Rattle.std.specs.Prelude.{◌≡◌, pos, neg_ℤ, [], ◌∷◌, true, false, refl}
+use Rattle.lattice_theory.specs.Vectors.{conforms, is_zero}
+use Rattle.lattice_theory.specs.Matrices.{Matrix, product}
+use Rattle.lattice_theory.specs.Lattices.{kernel}
+use Rattle.graver_laws.specs.Graver.{IsInKernel}
+
+abbrev one_two : Matrix
+one_two = record { cols = 2; rows = (pos 1 ∷ pos 2 ∷ []) ∷ [] }
+
+pub there : IsInKernel one_two (pos 2 ∷ neg_ℤ (pos 1) ∷ [])
+there = record { size = refl; quiet = refl }
+
+pub not_there : is_zero (product one_two (pos 1 ∷ neg_ℤ (pos 1) ∷ [])) ≡ false
+not_there = refl
+
+-- twice the vector is in the kernel too, and has the vector below it
+pub below_its_double : conforms (pos 2 ∷ neg_ℤ (pos 1) ∷ []) (pos 4 ∷ neg_ℤ (pos 2) ∷ []) ≡ true
+below_its_double = refl
+
+-- the slack basis of this row has four members, of which one has image 0
+pub listed : kernel 2 ((pos 0 ∷ pos 1 ∷ pos 2 ∷ []) ∷ (pos 1 ∷ neg_ℤ (pos 1) ∷ neg_ℤ (pos 1) ∷ []) ∷ (pos 1 ∷ pos 0 ∷ pos 1 ∷ []) ∷ (pos 2 ∷ neg_ℤ (pos 1) ∷ pos 0 ∷ []) ∷ [])
+    ≡ (pos 2 ∷ neg_ℤ (pos 1) ∷ []) ∷ []
+listed = refl

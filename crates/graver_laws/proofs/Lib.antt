@@ -1,0 +1,2 @@
+mod Kernels
+mod KnownValues
