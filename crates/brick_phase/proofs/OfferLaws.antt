@@ -10,7 +10,7 @@ use Rattle.std.proofs.lemmas.List.Elements.{length_all_zip, Contains-push, Conta
 use Rattle.lattice_laws.proofs.Rising.{lex_total}
 use Rattle.lattice_theory.specs.Vectors.{Vector, lex_cmp}
 use Rattle.fold_theory.specs.Programs.{Program, Brick, IsWithin, brick_residual}
-use Rattle.fold_theory.specs.BrickRuns.{BrickMove, stepped, brick_cmp}
+use Rattle.run_theory.specs.BrickRuns.{BrickMove, stepped, brick_cmp}
 use Rattle.fold_program.specs.Places.{OfBrick}
 use Rattle.brick_phase.specs.declared.offers.Place.{Place}
 use Rattle.brick_phase.specs.declared.offers.Offer.{Offer}

@@ -7,7 +7,7 @@ use Rattle.lattice_theory.specs.Vectors.{Vector, opposite}
 use Rattle.lattice_theory.specs.Lattices.{first_parts}
 use Rattle.lattice_laws.proofs.Members.{contains_cases, contains_head, contains_tail}
 use Rattle.fold_theory.specs.Programs.{Program, Brick, IsProgram, IsBrick, IsWithin, brick_residual}
-use Rattle.fold_theory.specs.BrickRuns.{BrickMove, nearest_point, stepped, Improves, IsBestBrickMove, IsBrickRunFrom}
+use Rattle.run_theory.specs.BrickRuns.{BrickMove, nearest_point, stepped, Improves, IsBestBrickMove, IsBrickRunFrom}
 use Rattle.fold_program.specs.Places.{OfBrick}
 use Rattle.brick_phase.specs.declared.moves.Moves.{Moves}
 use Rattle.brick_phase.specs.declared.offers.Place.{Place}

@@ -5,7 +5,7 @@ use Rattle.std.specs.declared.cmp.Ordering.{Ordering}
 use Rattle.lattice_theory.specs.Vectors.{Vector, lex_cmp}
 use Rattle.lattice_theory.specs.BasisLimits.{IsNarrow}
 use Rattle.fold_theory.specs.Programs.{Program, Brick, IsWithin, brick_residual}
-use Rattle.fold_theory.specs.BrickRuns.{BrickMove, nearest_point, stepped, brick_cmp}
+use Rattle.run_theory.specs.BrickRuns.{BrickMove, nearest_point, stepped, brick_cmp}
 use Rattle.fold_program.specs.Places.{OfBrick}
 use Rattle.brick_phase.specs.declared.moves.Moves.{Moves}
 use Rattle.brick_phase.specs.declared.offers.Place.{Place}

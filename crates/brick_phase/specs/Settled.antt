@@ -2,7 +2,7 @@
 use Rattle.std.specs.Prelude.{◌≡◌, ℕ, ◌-◌, ◌<◌, List, Some, slice_get}
 use Rattle.lattice_theory.specs.Vectors.{Vector}
 use Rattle.fold_theory.specs.Programs.{Program, Brick, brick_residual}
-use Rattle.fold_theory.specs.BrickRuns.{BrickMove, IsBrickRun}
+use Rattle.run_theory.specs.BrickRuns.{BrickMove, IsBrickRun}
 use Rattle.brick_phase.specs.declared.settling.BrickEnd.{BrickEnd}
 use Rattle.brick_phase.specs.declared.settling.BrickEnd.TheVariants.{Feasible, Stuck}
 

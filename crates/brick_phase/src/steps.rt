@@ -10,7 +10,7 @@ pub struct BrickStep {
 }
 
 impl Model for BrickStep {
-    ghost use Rattle.fold_theory.specs.BrickRuns.{BrickMove};
+    ghost use Rattle.run_theory.specs.BrickRuns.{BrickMove};
 
     ghost Value = { BrickMove };
 

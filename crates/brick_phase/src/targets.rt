@@ -4,7 +4,7 @@ ghost use Rattle.std.specs.Prelude.{◌≡◌, ◌<◌, ◌≤◌, ◌^◌, pos,
 ghost use Rattle.std.specs.List.{AllZip};
 ghost use Rattle.lattice_theory.specs.Lists.{zip_with};
 ghost use Rattle.lattice_theory.specs.BasisLimits.{IsNarrow};
-ghost use Rattle.fold_theory.specs.BrickRuns.{nearest, stepped};
+ghost use Rattle.run_theory.specs.BrickRuns.{nearest, stepped};
 ghost use Rattle.brick_phase.specs.Bounds.{AreBetween, Leads};
 
 use std::alloc::{AllocError, Global};

@@ -1,13 +1,13 @@
 -- The words at values worked by hand: two bricks whose two columns are to add up to 9 and to 4, and are at most 4.
 use Rattle.std.proofs.Common.{◌≡◌, ℕ, ℤ, pos, negsuc, true, false, List, [], ◌∷◌, refl, None}
-use Rattle.fold_theory.specs.declared.Claim.TheVariants as claim
-use Rattle.fold_theory.specs.declared.Rule.TheVariants.{C2, C7, B1, B2}
+use Rattle.run_theory.specs.declared.Claim.TheVariants as claim
+use Rattle.run_theory.specs.declared.Rule.TheVariants.{C2, C7, B1, B2}
 use Rattle.fold_theory.specs.declared.Verdict.TheVariants.{InfeasibleBrick}
 use Rattle.fold_theory.specs.declared.Cost.{Cost}
 use Rattle.fold_theory.specs.declared.Cost.TheVariants.{Quadratic}
 use Rattle.lattice_theory.specs.Vectors.{Vector}
 use Rattle.fold_theory.specs.Programs.{Program, Brick}
-use Rattle.fold_theory.specs.Certificates.{Certificate}
+use Rattle.run_theory.specs.Certificates.{Certificate}
 use Rattle.cert_checker.specs.declared.answer.Check.TheVariants.{Yes, No}
 use Rattle.cert_checker.specs.Answers.{checked, parts_fit}
 use Rattle.cert_checker.specs.Turns.{pair_reduces, pairs_reduce}

@@ -1,10 +1,10 @@
 -- Where the checker says yes, its verdict is true of the program.
 use Rattle.std.proofs.Common.{◌≡◌, ℕ, Option, Some, None, Result, Ok, Err, IfOk, refl, sym, subst}
-use Rattle.fold_theory.specs.declared.Rule.{Rule}
-use Rattle.fold_theory.specs.declared.Claim.TheVariants as claim
+use Rattle.run_theory.specs.declared.Rule.{Rule}
+use Rattle.run_theory.specs.declared.Claim.TheVariants as claim
 use Rattle.fold_theory.specs.Programs.{Program, IsProgram}
-use Rattle.fold_theory.specs.Certificates.{Certificate}
-use Rattle.fold_theory.specs.Checker.{Accept, first_broken, claimed_verdict}
+use Rattle.run_theory.specs.Certificates.{Certificate}
+use Rattle.run_theory.specs.Checker.{Accept, first_broken, claimed_verdict}
 use Rattle.fold_theory.specs.Verdicts.{Holds}
 use Rattle.fold_laws.proofs.BrickMisses.{accepted_holds}
 use Rattle.cert_checker.specs.declared.answer.Check.{Check}

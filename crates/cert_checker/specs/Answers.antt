@@ -2,8 +2,8 @@
 use Rattle.std.specs.Prelude.{◌+◌, Bool, ◌&&◌, length, None, Some}
 use Rattle.lattice_theory.specs.Matrices.{has_shape}
 use Rattle.fold_theory.specs.Programs.{Program}
-use Rattle.fold_theory.specs.Certificates.{Certificate}
-use Rattle.fold_theory.specs.Checker.{first_broken, claimed_verdict}
+use Rattle.run_theory.specs.Certificates.{Certificate}
+use Rattle.run_theory.specs.Checker.{first_broken, claimed_verdict}
 use Rattle.fold_theory.specs.Verdicts.{Holds}
 use Rattle.cert_checker.specs.declared.answer.Check.{Check}
 use Rattle.cert_checker.specs.declared.answer.Check.TheVariants.{Yes, No}

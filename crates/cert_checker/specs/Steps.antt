@@ -3,7 +3,7 @@ use Rattle.std.specs.Prelude.{ℕ, nat_lt, Bool, ◌&&◌, List}
 use Rattle.lattice_theory.specs.Vectors.{Vector}
 use Rattle.lattice_theory.specs.Lattices.{first_parts}
 use Rattle.fold_theory.specs.Programs.{Program, Brick, is_within, brick_residual}
-use Rattle.fold_theory.specs.Checker.{no_step_helps}
+use Rattle.run_theory.specs.Checker.{no_step_helps}
 
 -- y is within the bounds of the brick and has a smaller residual than this
 abbrev pub is_better : Program → Brick → ℕ → Vector → Bool

@@ -1,7 +1,7 @@
 //! The checker of certificates.
 
 ghost use Rattle.std.specs.Prelude.{◌≡◌, ◌≤◌, ◌+◌, ◌&&◌, length, IfOk};
-ghost use Rattle.fold_theory.specs.declared.Claim.TheVariants as claim;
+ghost use Rattle.run_theory.specs.declared.Claim.TheVariants as claim;
 ghost use Rattle.lattice_theory.specs.Matrices.{has_shape};
 ghost use Rattle.fold_theory.specs.Programs.{IsProgram};
 ghost use Rattle.cert_checker.specs.Answers.{checked, IsTrueYes, parts_fit};
@@ -11,7 +11,8 @@ use crate::completeness::is_complete;
 use crate::steps::no_step_helps;
 use certificate::Certificate;
 use fold_program::Program;
-use fold_theory::{Claim, Rule, Verdict};
+use fold_theory::Verdict;
+use run_theory::{Claim, Rule};
 use mat_files::Matrix;
 use std::alloc::{AllocError, Global};
 

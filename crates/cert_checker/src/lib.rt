@@ -10,7 +10,8 @@ mod steps;
 
 pub use answer::Check;
 pub use checking::check;
-pub use fold_theory::{Rule, Verdict};
+pub use fold_theory::Verdict;
+pub use run_theory::Rule;
 
 #[cfg(test)]
 mod tests;

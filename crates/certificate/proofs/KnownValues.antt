@@ -4,9 +4,9 @@ use Rattle.std.specs.Prelude.{codes, refl}
 use Rattle.std.specs.Fmt.{digits}
 use Rattle.lattice_theory.specs.Vectors.{Vector}
 use Rattle.lattice_theory.specs.Matrices.{Matrix}
-use Rattle.fold_theory.specs.declared.Claim.{Claim}
-use Rattle.fold_theory.specs.declared.Claim.TheVariants as claim
-use Rattle.fold_theory.specs.Certificates.{Certificate, FoldPart}
+use Rattle.run_theory.specs.declared.Claim.{Claim}
+use Rattle.run_theory.specs.declared.Claim.TheVariants as claim
+use Rattle.run_theory.specs.Certificates.{Certificate, FoldPart}
 use Rattle.certificate.specs.declared.fault.CertKind.{CertKind}
 use Rattle.certificate.specs.declared.fault.CertKind.TheVariants as kind
 use Rattle.certificate.specs.declared.fault.CertFault.{CertFault}

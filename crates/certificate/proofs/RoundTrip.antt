@@ -8,9 +8,9 @@ use Rattle.std.proofs.lemmas.Bool.{leb-true}
 use Rattle.std.proofs.lemmas.List.Elements.{recursion_from_All}
 use Rattle.lattice_theory.specs.BasisLimits.{IsNarrow}
 use Rattle.lattice_theory.specs.Matrices.{Matrix}
-use Rattle.fold_theory.specs.declared.Claim.{Claim}
-use Rattle.fold_theory.specs.declared.Claim.TheVariants as claim
-use Rattle.fold_theory.specs.Certificates.{Certificate, FoldPart}
+use Rattle.run_theory.specs.declared.Claim.{Claim}
+use Rattle.run_theory.specs.declared.Claim.TheVariants as claim
+use Rattle.run_theory.specs.Certificates.{Certificate, FoldPart}
 use Rattle.mat_files.specs.Tokens.{is_white, Token, tokens_from, and_then}
 use Rattle.mat_files.specs.MatrixText.{matrix_text}
 use Rattle.certificate.specs.declared.fault.CertKind.TheVariants as kind

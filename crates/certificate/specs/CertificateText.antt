@@ -4,9 +4,9 @@ use Rattle.std.specs.Prelude.{map, length, flat_map, cond, Option, Some, None, R
 use Rattle.std.specs.Fmt.{decimal, signed_decimal}
 use Rattle.std.specs.List.{join_with_byte}
 use Rattle.lattice_theory.specs.Matrices.{Matrix, rows_of}
-use Rattle.fold_theory.specs.declared.Claim.{Claim}
-use Rattle.fold_theory.specs.declared.Claim.TheVariants as claim
-use Rattle.fold_theory.specs.Certificates.{Certificate, FoldPart, Table}
+use Rattle.run_theory.specs.declared.Claim.{Claim}
+use Rattle.run_theory.specs.declared.Claim.TheVariants as claim
+use Rattle.run_theory.specs.Certificates.{Certificate, FoldPart, Table}
 use Rattle.mat_files.specs.Tokens.{Token, tokens, number_of, count_of, and_then}
 use Rattle.mat_files.specs.MatrixText.{matrix_text}
 use Rattle.certificate.specs.declared.fault.CertKind.{CertKind}

@@ -3,9 +3,9 @@ use Rattle.std.specs.Prelude.{◌≡◌, ℕ, ◌≤◌, length, None, All, IsTr
 use Rattle.lattice_theory.specs.Vectors.{Vector, is_bounded}
 use Rattle.lattice_theory.specs.Matrices.{Matrix}
 use Rattle.lattice_theory.specs.BasisLimits.{IsNarrow}
-use Rattle.fold_theory.specs.declared.Claim.{Claim}
-use Rattle.fold_theory.specs.declared.Claim.TheVariants as claim
-use Rattle.fold_theory.specs.Certificates.{Certificate}
+use Rattle.run_theory.specs.declared.Claim.{Claim}
+use Rattle.run_theory.specs.declared.Claim.TheVariants as claim
+use Rattle.run_theory.specs.Certificates.{Certificate}
 
 -- each entry is at most 2 ^ 62 in absolute value
 abbrev pub IsBoundedRow : Vector → Type 0

@@ -7,7 +7,7 @@ ghost use Rattle.lattice_theory.specs.BasisLimits.{IsNarrow};
 ghost use Rattle.certificate.specs.Readable.{IsBrickClaim, IsBoundedRow};
 
 use crate::fold_part::FoldPart;
-use fold_theory::Claim;
+use run_theory::Claim;
 use mat_files::Matrix;
 pub use printing::print;
 use std::marker::Model;
@@ -26,7 +26,7 @@ pub struct Certificate {
 }
 
 impl Model for Certificate {
-    ghost use Rattle.fold_theory.specs.Certificates as certificates;
+    ghost use Rattle.run_theory.specs.Certificates as certificates;
     ghost use Rattle.certificate.specs.Readable.{IsReadable};
 
     ghost Value = { certificates.Certificate };

@@ -18,7 +18,7 @@ pub struct FoldPart {
 
 impl Model for FoldPart {
     ghost use Rattle.std.specs.Prelude.{◌≡◌, ◌*◌, length};
-    ghost use Rattle.fold_theory.specs.Certificates as certificates;
+    ghost use Rattle.run_theory.specs.Certificates as certificates;
 
     ghost Value = { certificates.FoldPart };
 

@@ -11,7 +11,7 @@ mod reading;
 pub use certificate::{Certificate, print};
 pub use fault::{CertFault, CertKind};
 pub use fold_part::FoldPart;
-pub use fold_theory::Claim;
+pub use run_theory::Claim;
 pub use reading::parse;
 
 #[cfg(test)]

@@ -7,7 +7,7 @@ ghost use Rattle.certificate.specs.Readable.{IsBrickClaim};
 
 use crate::certificate::Certificate;
 use crate::fault::{CertFault, CertKind};
-use fold_theory::Claim;
+use run_theory::Claim;
 use mat_files::{Matrix, Scanner, Spelled, spelled_count, spelled_number};
 use std::alloc::Global;
 

@@ -3,20 +3,20 @@ use Rattle.std.proofs.Common.{◌≡◌, ℕ, ◌<◌, nat_lt, ℤ, true, List, 
 use Rattle.std.specs.List.{AllByRecursion}
 use Rattle.fold_theory.specs.declared.Phase.{Phase}
 use Rattle.fold_theory.specs.declared.Phase.TheVariants.{Closed, Counted}
-use Rattle.fold_theory.specs.declared.Claim.{Claim}
-use Rattle.fold_theory.specs.declared.Claim.TheVariants as claim
+use Rattle.run_theory.specs.declared.Claim.{Claim}
+use Rattle.run_theory.specs.declared.Claim.TheVariants as claim
 use Rattle.fold_theory.specs.declared.Verdict.{Verdict}
 use Rattle.fold_theory.specs.declared.Verdict.TheVariants.{Optimal, InfeasibleBrick, InfeasibleLink}
 use Rattle.lattice_theory.specs.Lattices.{IsSlackBasis}
 use Rattle.lattice_theory.specs.SignedSums.{Sum, vectors}
 use Rattle.lattice_laws.proofs.SlackBases.{slack_basis_unique}
 use Rattle.fold_theory.specs.Programs.{Program, Bricks, IsBrick, IsProgram, link_rests, link_miss}
-use Rattle.fold_theory.specs.Links.{Bases, AreBases, generators, links_of, fold_complexity}
-use Rattle.fold_theory.specs.BrickSums.{AreBrickSums}
-use Rattle.fold_theory.specs.BrickRuns.{BrickMove}
-use Rattle.fold_theory.specs.Certificates.{Certificate, FoldPart}
-use Rattle.fold_theory.specs.Outcomes.{RunRecord, IsRecorded, AllSettle, CountedPart, ClosedPart, Outcome, IsOutcome, IsCertificate, IsFoldPart, matrix_of_bricks, point_matrix}
-use Rattle.fold_theory.specs.Checker.{fold_rules, first_failing, Accept}
+use Rattle.run_theory.specs.Links.{Bases, AreBases, generators, links_of, fold_complexity}
+use Rattle.run_theory.specs.BrickSums.{AreBrickSums}
+use Rattle.run_theory.specs.BrickRuns.{BrickMove}
+use Rattle.run_theory.specs.Certificates.{Certificate, FoldPart}
+use Rattle.run_theory.specs.Outcomes.{RunRecord, IsRecorded, AllSettle, CountedPart, ClosedPart, Outcome, IsOutcome, IsCertificate, IsFoldPart, matrix_of_bricks, point_matrix}
+use Rattle.run_theory.specs.Checker.{fold_rules, first_failing, Accept}
 use Rattle.yes_laws.proofs.Accepted.{bricks_of}
 use Rattle.certificate_laws.proofs.Passing.{nat_lt_of}
 use Rattle.certificate_laws.proofs.StuckBricks.{stuck_certificate, first_stuck_accepted}

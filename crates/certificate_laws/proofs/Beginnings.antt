@@ -13,9 +13,9 @@ use Rattle.lattice_theory.specs.Matrices.{product}
 use Rattle.lattice_laws.proofs.Tests.{and_true, true_or_false}
 use Rattle.lattice_laws.proofs.Products.{length-zeros, zeros_is}
 use Rattle.fold_theory.specs.Programs.{Program, Brick, Bricks, IsBrick, brick_cost, link_rests, link_miss, phase_cost}
-use Rattle.fold_theory.specs.Steps.{moved, AllowsEnd, NoneAugments}
-use Rattle.fold_theory.specs.Walks.{walk_change, walk_end, WalkCosts}
-use Rattle.fold_theory.specs.Checker.{at_most, starts_at_zero}
+use Rattle.run_theory.specs.Steps.{moved, AllowsEnd, NoneAugments}
+use Rattle.run_theory.specs.Walks.{walk_change, walk_end, WalkCosts}
+use Rattle.run_theory.specs.Checker.{at_most, starts_at_zero}
 use Rattle.fold_laws.proofs.Agreement.{add_zeros, zeros_add}
 use Rattle.fold_laws.proofs.Bounds.{int_le_of}
 use Rattle.fold_laws.proofs.Terms.{sum_of}

@@ -9,8 +9,8 @@ use Rattle.lattice_theory.specs.Lattices.{first_parts}
 use Rattle.lattice_laws.proofs.Members.{contains_cases, contains_head, contains_tail}
 use Rattle.lattice_laws.proofs.Conformal.{sub-opposite}
 use Rattle.fold_theory.specs.Programs.{Program, Brick, IsBrick, IsWithin, is_within, IsLength, brick_residual}
-use Rattle.fold_theory.specs.BrickRuns.{nearest, nearest_point, BrickMove, stepped, IsSignedPart, Improves, IsBrickRunFrom, IsBrickRun}
-use Rattle.fold_theory.specs.Checker.{no_step_helps}
+use Rattle.run_theory.specs.BrickRuns.{nearest, nearest_point, BrickMove, stepped, IsSignedPart, Improves, IsBrickRunFrom, IsBrickRun}
+use Rattle.run_theory.specs.Checker.{no_step_helps}
 use Rattle.fold_laws.proofs.Bounds.{is_within_true}
 use Rattle.yes_laws.proofs.Combinations.{scale_once}
 use Rattle.certificate_laws.proofs.Passing.{and_of, list_all_of, nat_le_of}

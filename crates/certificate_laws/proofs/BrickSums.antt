@@ -13,9 +13,9 @@ use Rattle.lattice_laws.proofs.Members.{contains_cases, contains_head, contains_
 use Rattle.lattice_laws.proofs.Conformal.{length-add}
 use Rattle.lattice_laws.proofs.Products.{rows-add, rows-zeros, length-zeros}
 use Rattle.lattice_laws.proofs.Rising.{rising_unique}
-use Rattle.fold_theory.specs.Certificates.{sum_of_row}
-use Rattle.fold_theory.specs.Outcomes.{row_of_sum}
-use Rattle.fold_theory.specs.Checker.{is_sum_within, sums_are_closed}
+use Rattle.run_theory.specs.Certificates.{sum_of_row}
+use Rattle.run_theory.specs.Outcomes.{row_of_sum}
+use Rattle.run_theory.specs.Checker.{is_sum_within, sums_are_closed}
 use Rattle.fold_laws.proofs.Agreement.{add_zeros, length-sub}
 use Rattle.fold_laws.proofs.Residuals.{rows-sub}
 use Rattle.yes_laws.proofs.PieceCounts.{sub_itself}

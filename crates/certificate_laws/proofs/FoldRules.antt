@@ -5,20 +5,20 @@ use Rattle.std.proofs.lemmas.List.Elements.{recursion_from_All}
 use Rattle.std.specs.List.{list_all, AllByRecursion}
 use Rattle.fold_theory.specs.declared.Phase.{Phase}
 use Rattle.fold_theory.specs.declared.Phase.TheVariants.{Closed, Counted}
-use Rattle.fold_theory.specs.declared.Claim.{Claim}
+use Rattle.run_theory.specs.declared.Claim.{Claim}
 use Rattle.lattice_theory.specs.Lists.{all_zip}
 use Rattle.lattice_theory.specs.Vectors.{Vector, dot}
 use Rattle.lattice_theory.specs.Matrices.{has_shape}
 use Rattle.lattice_theory.specs.SignedSums.{Sum, vectors}
 use Rattle.lattice_laws.proofs.Members.{contains_head, contains_tail}
 use Rattle.fold_theory.specs.Programs.{Program, Bricks, IsBrick, IsProgram, IsWithin, is_within, brick_residual, link_rests, link_miss}
-use Rattle.fold_theory.specs.Links.{Bases, AreBases, generators, links_of, fold_complexity}
-use Rattle.fold_theory.specs.Steps.{AllowsEnd}
-use Rattle.fold_theory.specs.Walks.{IsPotential}
-use Rattle.fold_theory.specs.BrickSums.{AreBrickSums}
-use Rattle.fold_theory.specs.Certificates.{Certificate, FoldPart, Table, listed_sums}
-use Rattle.fold_theory.specs.Outcomes.{ArePotentials, row_of_sum, matrix_of_bricks, point_matrix}
-use Rattle.fold_theory.specs.Checker.{point_fits, parts_fit, layers_hold, starts_at_zero, sums_are_closed, fold_rules, first_failing}
+use Rattle.run_theory.specs.Links.{Bases, AreBases, generators, links_of, fold_complexity}
+use Rattle.run_theory.specs.Steps.{AllowsEnd}
+use Rattle.run_theory.specs.Walks.{IsPotential}
+use Rattle.run_theory.specs.BrickSums.{AreBrickSums}
+use Rattle.run_theory.specs.Certificates.{Certificate, FoldPart, Table, listed_sums}
+use Rattle.run_theory.specs.Outcomes.{ArePotentials, row_of_sum, matrix_of_bricks, point_matrix}
+use Rattle.run_theory.specs.Checker.{point_fits, parts_fit, layers_hold, starts_at_zero, sums_are_closed, fold_rules, first_failing}
 use Rattle.fold_laws.proofs.Bounds.{is_within_of}
 use Rattle.fold_laws.proofs.Reductions.{AreSized}
 use Rattle.yes_laws.proofs.Least.{points_sized, point-length}

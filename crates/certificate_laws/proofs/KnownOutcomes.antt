@@ -5,7 +5,7 @@ use Rattle.std.proofs.Common.{arith, ap, sym, inl, inr, subst}
 use Rattle.std.proofs.lemmas.Int.{ints}
 use Rattle.std.proofs.lemmas.List.Elements.{All-head, All-nil, All-from_recursion, recursion_from_All}
 use Rattle.std.specs.List.{list_all}
-use Rattle.fold_theory.specs.declared.Claim.TheVariants as claim
+use Rattle.run_theory.specs.declared.Claim.TheVariants as claim
 use Rattle.fold_theory.specs.declared.Phase.TheVariants.{Closed}
 use Rattle.fold_theory.specs.declared.Verdict.TheVariants.{Optimal, InfeasibleBrick}
 use Rattle.lattice_theory.specs.Vectors.{Vector, is_zero}
@@ -19,14 +19,14 @@ use Rattle.lattice_laws.proofs.Elements.{element-lifted}
 use Rattle.lattice_laws.proofs.UnitVectors.{without_rows, first_units, units_elements}
 use Rattle.fold_theory.specs.Costs.{value, IsConvexOn}
 use Rattle.fold_theory.specs.Programs.{Program, Brick, Bricks, IsBrick, IsProgram, IsWithin, brick_residual, link_rests}
-use Rattle.fold_theory.specs.Links.{Bases, AreBases}
-use Rattle.fold_theory.specs.BrickSums.{AreBrickSums}
-use Rattle.fold_theory.specs.BrickRuns.{BrickMove, stepped, Improves}
-use Rattle.fold_theory.specs.Steps.{NoneAugments}
-use Rattle.fold_theory.specs.Walks.{WalkCosts, IsPotential}
-use Rattle.fold_theory.specs.Certificates.{Certificate, FoldPart, Table}
-use Rattle.fold_theory.specs.Outcomes.{RunRecord, IsRecorded, Outcome, IsOutcome, IsCertificate, IsFoldPart, ArePotentials, FirstStuck}
-use Rattle.fold_theory.specs.Checker.{Accept}
+use Rattle.run_theory.specs.Links.{Bases, AreBases}
+use Rattle.run_theory.specs.BrickSums.{AreBrickSums}
+use Rattle.run_theory.specs.BrickRuns.{BrickMove, stepped, Improves}
+use Rattle.run_theory.specs.Steps.{NoneAugments}
+use Rattle.run_theory.specs.Walks.{WalkCosts, IsPotential}
+use Rattle.run_theory.specs.Certificates.{Certificate, FoldPart, Table}
+use Rattle.run_theory.specs.Outcomes.{RunRecord, IsRecorded, Outcome, IsOutcome, IsCertificate, IsFoldPart, ArePotentials, FirstStuck}
+use Rattle.run_theory.specs.Checker.{Accept}
 use Rattle.fold_theory.proofs.KnownValues.{square, free}
 use Rattle.fold_laws.proofs.KnownValues.{one_row}
 use Rattle.certificate_laws.proofs.Accepted.{stuck_is_accepted, outcome_is_accepted}

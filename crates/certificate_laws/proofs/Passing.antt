@@ -6,8 +6,8 @@ use Rattle.lattice_theory.specs.Lists.{all_zip}
 use Rattle.lattice_theory.specs.Vectors.{Vector}
 use Rattle.lattice_theory.specs.Matrices.{has_shape}
 use Rattle.lattice_laws.proofs.Members.{contains_head, contains_tail}
-use Rattle.fold_theory.specs.declared.Rule.{Rule}
-use Rattle.fold_theory.specs.Checker.{first_failing}
+use Rattle.run_theory.specs.declared.Rule.{Rule}
+use Rattle.run_theory.specs.Checker.{first_failing}
 use Rattle.fold_laws.proofs.Reductions.{AreSized}
 
 pub and_of : (a b : Bool) → a ≡ true → b ≡ true → (a && b) ≡ true

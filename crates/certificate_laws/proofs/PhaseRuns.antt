@@ -8,9 +8,9 @@ use Rattle.lattice_theory.specs.Vectors.{Vector, norm1, add, sub, scale, zeros}
 use Rattle.lattice_theory.specs.Matrices.{product}
 use Rattle.lattice_laws.proofs.Products.{rows-add, length-rows}
 use Rattle.fold_theory.specs.Programs.{Program, Brick, Bricks, IsBrick, AreWithin, brick_residual}
-use Rattle.fold_theory.specs.Steps.{Move, moved, AllowsEnd, IsBest, NoneAugments, IsRun}
-use Rattle.fold_theory.specs.BrickRuns.{BrickMove}
-use Rattle.fold_theory.specs.Outcomes.{AllSettle}
+use Rattle.run_theory.specs.Steps.{Move, moved, AllowsEnd, IsBest, NoneAugments, IsRun}
+use Rattle.run_theory.specs.BrickRuns.{BrickMove}
+use Rattle.run_theory.specs.Outcomes.{AllSettle}
 use Rattle.fold_laws.proofs.Agreement.{add_zeros}
 use Rattle.fold_laws.proofs.Multiples.{rows-scale, scale-zeros, length-scale}
 use Rattle.fold_laws.proofs.Reductions.{AreSized}

@@ -3,18 +3,18 @@ use Rattle.std.proofs.Common.{◌≡◌, ℕ, zero, suc, ◌+◌, ◌-◌, ◌<�
 use Rattle.std.proofs.lemmas.Bool.Decides.{nat_tests}
 use Rattle.std.proofs.lemmas.List.Elements.{recursion_from_All}
 use Rattle.std.specs.List.{AllByRecursion}
-use Rattle.fold_theory.specs.declared.Rule.{Rule}
-use Rattle.fold_theory.specs.declared.Rule.TheVariants.{B1}
-use Rattle.fold_theory.specs.declared.Claim.TheVariants as claim
+use Rattle.run_theory.specs.declared.Rule.{Rule}
+use Rattle.run_theory.specs.declared.Rule.TheVariants.{B1}
+use Rattle.run_theory.specs.declared.Claim.TheVariants as claim
 use Rattle.lattice_theory.specs.Vectors.{Vector}
 use Rattle.lattice_theory.specs.Matrices.{Matrix, has_shape}
 use Rattle.lattice_theory.specs.Lattices.{IsSlackBasis}
 use Rattle.lattice_theory.specs.BasisLimits.{IsBasisElement}
 use Rattle.fold_theory.specs.Programs.{Program, Brick, IsBrick, IsProgram, is_within, brick_residual}
-use Rattle.fold_theory.specs.Certificates.{Certificate}
-use Rattle.fold_theory.specs.Outcomes.{FirstStuck, matrix_of_bricks, point_matrix}
-use Rattle.fold_theory.specs.BrickRuns.{BrickMove}
-use Rattle.fold_theory.specs.Checker.{brick_rules, first_failing, Accept}
+use Rattle.run_theory.specs.Certificates.{Certificate}
+use Rattle.run_theory.specs.Outcomes.{FirstStuck, matrix_of_bricks, point_matrix}
+use Rattle.run_theory.specs.BrickRuns.{BrickMove}
+use Rattle.run_theory.specs.Checker.{brick_rules, first_failing, Accept}
 use Rattle.fold_laws.proofs.Bounds.{is_within_of, length-within}
 use Rattle.fold_laws.proofs.Reductions.{AreSized}
 use Rattle.yes_laws.proofs.Accepted.{bricks_of}

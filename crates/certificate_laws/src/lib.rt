@@ -9,9 +9,9 @@ ghost use Rattle.lattice_theory.specs.Vectors.{Vector};
 ghost use Rattle.lattice_theory.specs.Matrices.{Matrix};
 ghost use Rattle.lattice_theory.specs.Lattices.{IsSlackBasis, is_complete_for};
 ghost use Rattle.fold_theory.specs.Programs.{Program, IsProgram};
-ghost use Rattle.fold_theory.specs.Certificates.{Certificate};
-ghost use Rattle.fold_theory.specs.Outcomes.{Outcome, IsOutcome, IsCertificate};
-ghost use Rattle.fold_theory.specs.Checker.{Accept};
+ghost use Rattle.run_theory.specs.Certificates.{Certificate};
+ghost use Rattle.run_theory.specs.Outcomes.{Outcome, IsOutcome, IsCertificate};
+ghost use Rattle.run_theory.specs.Checker.{Accept};
 
 /// Law: the slack basis of a matrix passes Pottier's criterion for the lattice of all `(v, A·v)`.
 pub fn a_slack_basis_is_complete()

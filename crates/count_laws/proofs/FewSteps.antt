@@ -10,16 +10,16 @@ use Rattle.fold_theory.specs.declared.Phase.{Phase}
 use Rattle.lattice_theory.specs.Vectors.{Vector}
 use Rattle.lattice_theory.specs.SignedSums.{Sum, vectors}
 use Rattle.fold_theory.specs.Programs.{Program, Bricks, IsProgram, phase_cost}
-use Rattle.fold_theory.specs.Links.{Bases, AreBases, generators, fold_complexity}
-use Rattle.fold_theory.specs.BrickSums.{AreBrickSums}
-use Rattle.fold_theory.specs.Steps.{Move, moved, Augments, gain, IsBest, IsRun}
-use Rattle.fold_theory.specs.Outcomes.{bound_number}
+use Rattle.run_theory.specs.Links.{Bases, AreBases, generators, fold_complexity}
+use Rattle.run_theory.specs.BrickSums.{AreBrickSums}
+use Rattle.run_theory.specs.Steps.{Move, moved, Augments, gain, IsBest, IsRun}
+use Rattle.run_theory.specs.Outcomes.{bound_number}
 use Rattle.yes_laws.proofs.Accepted.{bricks_of}
 use Rattle.yes_laws.proofs.Least.{points_sized}
-use Rattle.run_laws.specs.Starts.{IsStart}
+use Rattle.run_theory.specs.Starts.{IsStart}
 use Rattle.run_laws.proofs.Frames.{frame_of, sums_quiet}
 use Rattle.run_laws.proofs.PhaseRuns.{run_best, moved_meets, all_quiet}
-use Rattle.count_laws.specs.Digits.{binary_digits}
+use Rattle.run_theory.specs.Digits.{binary_digits}
 use Rattle.count_laws.proofs.Counting.{count}
 use Rattle.count_laws.proofs.PowersOfTwo.{less_than_power}
 use Rattle.count_laws.proofs.Gains.{IsAt}

@@ -12,7 +12,7 @@ use Rattle.lattice_laws.proofs.Tests.{true_or_false, and_true}
 use Rattle.lattice_laws.proofs.Conformal.{norm_none, norm_of_zero}
 use Rattle.lattice_laws.proofs.Products.{length-rows}
 use Rattle.fold_theory.specs.Programs.{Program, Bricks, IsBrick, AreWithin, link_rests, link_miss, phase_cost}
-use Rattle.fold_theory.specs.Steps.{partial_sums, AllowsEnd, IsCandidate, Augments, gain}
+use Rattle.run_theory.specs.Steps.{partial_sums, AllowsEnd, IsCandidate, Augments, gain}
 use Rattle.fold_laws.proofs.Agreement.{same_vector}
 use Rattle.fold_laws.proofs.BrickMisses.{no_rest}
 use Rattle.fold_laws.proofs.Terms.{sum_of, weight}

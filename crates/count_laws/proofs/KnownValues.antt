@@ -9,14 +9,14 @@ use Rattle.lattice_theory.specs.Vectors.{Vector}
 use Rattle.lattice_theory.specs.SignedSums.{Sum, vectors}
 use Rattle.lattice_theory.proofs.KnownValues.{minus}
 use Rattle.fold_theory.specs.Programs.{Bricks, IsBrick, IsProgram, IsWithin, phase_cost}
-use Rattle.fold_theory.specs.Links.{Bases, AreBases}
-use Rattle.fold_theory.specs.BrickSums.{AreBrickSums}
-use Rattle.fold_theory.specs.Steps.{Move, IsRun}
-use Rattle.fold_theory.specs.Outcomes.{bound_number}
+use Rattle.run_theory.specs.Links.{Bases, AreBases}
+use Rattle.run_theory.specs.BrickSums.{AreBrickSums}
+use Rattle.run_theory.specs.Steps.{Move, IsRun}
+use Rattle.run_theory.specs.Outcomes.{bound_number}
 use Rattle.fold_theory.proofs.KnownValues.{brick_with, the_program, point_of, best_point}
 use Rattle.fold_laws.proofs.KnownValues.{one_brick, one_row}
-use Rattle.run_laws.specs.Starts.{IsStart}
-use Rattle.count_laws.specs.Digits.{binary_digits}
+use Rattle.run_theory.specs.Starts.{IsStart}
+use Rattle.run_theory.specs.Digits.{binary_digits}
 use Rattle.count_laws.proofs.FewSteps.{few_steps}
 
 -- ---- binary digits

@@ -10,8 +10,8 @@ use Rattle.lattice_theory.specs.Vectors.{Vector, ◌⊑◌, sub, scale}
 use Rattle.lattice_theory.specs.Matrices.{product}
 use Rattle.lattice_laws.proofs.Products.{length-rows}
 use Rattle.fold_theory.specs.Programs.{Program, Bricks, phase_cost}
-use Rattle.fold_theory.specs.Steps.{Augments, gain}
-use Rattle.fold_theory.specs.Outcomes.{widest_entry, bound_number}
+use Rattle.run_theory.specs.Steps.{Augments, gain}
+use Rattle.run_theory.specs.Outcomes.{widest_entry, bound_number}
 use Rattle.fold_laws.proofs.Terms.{sum_of, weight}
 use Rattle.fold_laws.proofs.Reductions.{AreSized}
 use Rattle.yes_laws.proofs.PointParts.{back}

@@ -3,7 +3,7 @@ use Rattle.std.proofs.Common.{◌≡◌, ℕ, zero, suc, ◌+◌, ◌^◌, ◌/�
 use Rattle.std.proofs.lemmas.Bool.{cases_lt}
 use Rattle.std.proofs.lemmas.Int.Digits.{length-digits_of_step}
 use Rattle.std.proofs.Math.Nat.{pow-suc}
-use Rattle.count_laws.specs.Digits.{binary_digits}
+use Rattle.run_theory.specs.Digits.{binary_digits}
 
 pub power-suc : (k : ℕ) → 2 ^ (suc k) ≡ 2 ^ k + 2 ^ k
 power-suc k = omega (arith, pow-suc 2 k)

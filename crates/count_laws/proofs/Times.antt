@@ -10,7 +10,7 @@ use Rattle.lattice_laws.proofs.Signs.{agrees_same, between_sum}
 use Rattle.lattice_laws.proofs.Conformal.{conforms_trans}
 use Rattle.lattice_laws.proofs.Products.{times_sum}
 use Rattle.fold_theory.specs.Programs.{Program, Bricks}
-use Rattle.fold_theory.specs.Steps.{moved}
+use Rattle.run_theory.specs.Steps.{moved}
 use Rattle.fold_laws.proofs.Agreement.{add_zeros}
 use Rattle.fold_laws.proofs.Multiples.{scale_zero, scale-zeros, length-scale, rows-scale, norm-scale}
 use Rattle.fold_laws.proofs.Reductions.{AreSized}

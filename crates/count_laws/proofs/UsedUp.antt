@@ -10,9 +10,9 @@ use Rattle.lattice_laws.proofs.Members.{contains_cases}
 use Rattle.lattice_laws.proofs.Conformal.{norm_below}
 use Rattle.lattice_laws.proofs.Products.{length-zeros}
 use Rattle.fold_theory.specs.Programs.{Program, Bricks}
-use Rattle.fold_theory.specs.Steps.{partial_sums}
-use Rattle.fold_theory.specs.Walks.{walk_end}
-use Rattle.fold_theory.specs.Outcomes.{widest_entry}
+use Rattle.run_theory.specs.Steps.{partial_sums}
+use Rattle.run_theory.specs.Walks.{walk_end}
+use Rattle.run_theory.specs.Outcomes.{widest_entry}
 use Rattle.fold_laws.proofs.Agreement.{sub_swap, zeros_add}
 use Rattle.fold_laws.proofs.Terms.{sum_of, weight}
 use Rattle.fold_laws.proofs.Reductions.{AreSized}

@@ -7,12 +7,12 @@ ghost use Rattle.lattice_theory.specs.Vectors.{Vector};
 ghost use Rattle.lattice_theory.specs.SignedSums.{Sum, vectors};
 ghost use Rattle.fold_theory.specs.declared.Phase.{Phase};
 ghost use Rattle.fold_theory.specs.Programs.{Program, IsProgram, Bricks, phase_cost};
-ghost use Rattle.fold_theory.specs.Links.{Bases, AreBases};
-ghost use Rattle.fold_theory.specs.BrickSums.{AreBrickSums};
-ghost use Rattle.fold_theory.specs.Steps.{Move, IsRun};
-ghost use Rattle.fold_theory.specs.Outcomes.{bound_number};
-ghost use Rattle.run_laws.specs.Starts.{IsStart};
-ghost use Rattle.count_laws.specs.Digits.{binary_digits};
+ghost use Rattle.run_theory.specs.Links.{Bases, AreBases};
+ghost use Rattle.run_theory.specs.BrickSums.{AreBrickSums};
+ghost use Rattle.run_theory.specs.Steps.{Move, IsRun};
+ghost use Rattle.run_theory.specs.Outcomes.{bound_number};
+ghost use Rattle.run_theory.specs.Starts.{IsStart};
+ghost use Rattle.run_theory.specs.Digits.{binary_digits};
 
 /// Law: a run of a phase makes at most K·b steps, where K is the bound number and b the number of binary digits of the
 /// whole gain, which is not negative.

@@ -5,18 +5,18 @@ use Rattle.std.proofs.lemmas.Int.{ints}
 use Rattle.std.proofs.lemmas.Bool.Decides.{nat_tests}
 use Rattle.std.proofs.lemmas.Option.{slice_get_within, get_or_from_slice_get}
 use Rattle.std.proofs.lemmas.List.Elements.{All-contains}
-use Rattle.fold_theory.specs.declared.Rule.{Rule}
-use Rattle.fold_theory.specs.declared.Rule.TheVariants.{B1}
-use Rattle.fold_theory.specs.declared.Claim.{Claim}
-use Rattle.fold_theory.specs.declared.Claim.TheVariants as claim
+use Rattle.run_theory.specs.declared.Rule.{Rule}
+use Rattle.run_theory.specs.declared.Rule.TheVariants.{B1}
+use Rattle.run_theory.specs.declared.Claim.{Claim}
+use Rattle.run_theory.specs.declared.Claim.TheVariants as claim
 use Rattle.fold_theory.specs.declared.Verdict.TheVariants.{InfeasibleBrick}
 use Rattle.lattice_theory.specs.Vectors.{Vector, norm1, sub}
 use Rattle.lattice_theory.specs.Matrices.{product, has_shape}
 use Rattle.lattice_laws.proofs.Tests.{and_true}
 use Rattle.lattice_laws.proofs.Conformal.{norm1-cons}
 use Rattle.fold_theory.specs.Programs.{Program, Brick, Bricks, IsBrick, IsProgram, IsWithin, is_within, brick_residual}
-use Rattle.fold_theory.specs.Certificates.{Certificate}
-use Rattle.fold_theory.specs.Checker.{brick_rules, first_failing, claimed_verdict, Accept}
+use Rattle.run_theory.specs.Certificates.{Certificate}
+use Rattle.run_theory.specs.Checker.{brick_rules, first_failing, claimed_verdict, Accept}
 use Rattle.fold_theory.specs.Verdicts.{IsInfeasible, Holds}
 use Rattle.fold_laws.proofs.Bounds.{is_within_true}
 use Rattle.fold_laws.proofs.BrickSteps.{IsStuck, least_residual}

@@ -9,10 +9,11 @@ use Rattle.lattice_theory.specs.Matrices.{Matrix, HasShape}
 use Rattle.lattice_theory.proofs.KnownValues.{minus, three}
 use Rattle.fold_theory.specs.Programs.{Program, IsBrick, IsProgram}
 use Rattle.fold_theory.specs.Costs.{value, IsConvexOn}
-use Rattle.fold_theory.specs.Certificates.{Certificate}
-use Rattle.fold_theory.specs.Checker.{Accept, claimed_verdict}
+use Rattle.run_theory.specs.Certificates.{Certificate}
+use Rattle.run_theory.specs.Checker.{Accept, claimed_verdict}
 use Rattle.fold_theory.specs.Verdicts.{Holds}
-use Rattle.fold_theory.proofs.KnownValues.{square, free, brick_with, program_with, brick_certificate}
+use Rattle.fold_theory.proofs.KnownValues.{square, free, brick_with, program_with}
+use Rattle.run_theory.proofs.KnownValues.{brick_certificate}
 use Rattle.fold_laws.specs.Elements.{IsNonzeroElement}
 use Rattle.fold_laws.proofs.BrickMisses.{accepted_holds}
 

@@ -1,10 +1,10 @@
 //! What a certificate shows that breaks no rule.
 
 ghost use Rattle.std.specs.Prelude.{◌≡◌, ℕ};
-ghost use Rattle.fold_theory.specs.declared.Claim.TheVariants as claim;
+ghost use Rattle.run_theory.specs.declared.Claim.TheVariants as claim;
 ghost use Rattle.fold_theory.specs.Programs.{Program, IsProgram};
-ghost use Rattle.fold_theory.specs.Certificates.{Certificate};
-ghost use Rattle.fold_theory.specs.Checker.{Accept, claimed_verdict};
+ghost use Rattle.run_theory.specs.Certificates.{Certificate};
+ghost use Rattle.run_theory.specs.Checker.{Accept, claimed_verdict};
 ghost use Rattle.fold_theory.specs.Verdicts.{Holds};
 
 /// Law: a certificate on one brick that breaks no rule shows what it claims: no vector within the bounds of

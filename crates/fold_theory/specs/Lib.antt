@@ -1,15 +1,4 @@
 pub mod Costs
 pub mod Programs
 pub mod Breaks
-pub mod Links
-pub mod BrickSums
-pub mod Steps
-pub mod BrickRuns
-pub mod Walks
-pub mod Keys
-pub mod Live
 pub mod Verdicts
-pub mod Certificates
-pub mod Checker
-pub mod Outcomes
-pub mod Limits

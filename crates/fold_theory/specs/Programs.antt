@@ -1,11 +1,14 @@
 -- The n-fold program, its points, what a point breaks and what it costs.
-use Rattle.std.specs.Prelude.{◌≡◌, ℕ, ◌^◌, ◌≤◌, max, ℤ, pos, ◌-ℤ◌, ◌≤ℤ◌, int_le, unsigned_abs, Bool, ◌&&◌, List, map, length, flat_map, All}
+use Rattle.std.specs.Prelude.{◌≡◌, ℕ, suc, ◌^◌, ◌≤◌, max, ℤ, pos, negsuc, ◌-ℤ◌, ◌≤ℤ◌, int_le, unsigned_abs, Bool, true, ◌&&◌, List, map, length, sum, flat_map, All}
 use Rattle.std.specs.List.{AllZip}
+use Rattle.std.specs.Ordering.{int_eq}
 use Rattle.fold_theory.specs.declared.Cost.{Cost}
 use Rattle.fold_theory.specs.declared.Phase.{Phase}
 use Rattle.fold_theory.specs.declared.Phase.TheVariants.{Closed, Counted}
+use Rattle.fold_theory.specs.declared.Relation.{Relation}
+use Rattle.fold_theory.specs.declared.Relation.TheVariants.{Equal, Less, Greater}
 use Rattle.lattice_theory.specs.Lists.{zip_with, sum_zip, total, greatest, all_zip}
-use Rattle.lattice_theory.specs.Vectors.{Vector, dot, norm1, sub, is_zero}
+use Rattle.lattice_theory.specs.Vectors.{Vector, dot, norm1, sub}
 use Rattle.lattice_theory.specs.Matrices.{Matrix, product, HasShape}
 use Rattle.fold_theory.specs.Costs.{value, IsConvexOn}
 
@@ -16,10 +19,11 @@ pub record Brick : Type 0 where
   pub right : Vector
   pub costs : List Cost
 
--- the program: the linking matrix with its right sides, the matrix of all bricks, and the bricks
+-- the program: the linking matrix with its right sides and relations, the matrix of all bricks, and the bricks
 pub record Program : Type 0 where
   pub link : Matrix
   pub link_right : Vector
+  pub relations : List Relation
   pub brick : Matrix
   pub bricks : List Brick
 
@@ -40,6 +44,7 @@ pub record IsProgram (p : Program) : Type 0 where
   pub link_shape : HasShape (length p.link.rows) p.link.cols p.link
   pub brick_shape : HasShape (length p.brick.rows) p.link.cols p.brick
   pub right_size : length p.link_right ≡ length p.link.rows
+  pub relations_size : length p.relations ≡ length p.link.rows
   pub each_brick : All (IsBrick p.link.cols (length p.brick.rows)) p.bricks
 
 -- v is within the bounds of the brick
@@ -69,13 +74,31 @@ MeetsBrickRows p x = AllZip (λ b v. product p.brick v ≡ b.right) p.bricks x
 abbrev pub link_rests : Program → Bricks → Vector
 link_rests p x = zip_with (λ row right. right -ℤ total (map (dot row) x)) p.link.rows p.link_right
 
--- how far the linking rows with these rests are from being met
-abbrev pub link_miss : Program → Vector → ℕ
-link_miss p rests = norm1 rests
+-- how far a row is from being met, where its right side less its sum is this
+abbrev pub dist : Relation → ℤ → ℕ
+dist Equal rest = unsigned_abs rest
+dist Less (pos rest) = 0
+dist Less (negsuc rest) = suc rest
+dist Greater (pos rest) = rest
+dist Greater (negsuc rest) = 0
 
--- a change of the linking rows by this much leaves each of them met wherever it was
-abbrev pub keeps_links : Vector → Bool
-keeps_links image = is_zero image
+-- how far each linking row with these rests is from being met
+abbrev pub link_misses : Program → Vector → List ℕ
+link_misses p rests = zip_with dist p.relations rests
+
+-- how far the linking rows with these rests are from being met, in all
+abbrev pub link_miss : Program → Vector → ℕ
+link_miss p rests = sum (link_misses p rests)
+
+-- a row that changes by this much rests as it was, where it is an equation
+abbrev pub keeps_row : Relation → ℤ → Bool
+keeps_row Equal change = int_eq change (pos 0)
+keeps_row Less change = true
+keeps_row Greater change = true
+
+-- so does each linking row
+abbrev pub keeps_equations : List Relation → Vector → Bool
+keeps_equations relations image = all_zip keeps_row relations image
 
 -- every linking row is met
 abbrev pub MeetsLinkRows : Program → Bricks → Type 0

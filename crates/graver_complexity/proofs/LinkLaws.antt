@@ -9,8 +9,8 @@ use Rattle.std.proofs.lemmas.Option.{slice_get-map, slice_get_within, get_or_fro
 use Rattle.lattice_theory.specs.Vectors.{Vector, dot}
 use Rattle.lattice_theory.specs.Matrices.{Matrix, rows_of}
 use Rattle.lattice_theory.specs.BasisLimits.{IsNarrow}
-use Rattle.fold_theory.specs.Links.{link_matrix}
-use Rattle.fold_theory.specs.Limits.{IsFirstWide}
+use Rattle.run_theory.specs.Links.{link_matrix}
+use Rattle.run_theory.specs.Limits.{IsFirstWide}
 use Rattle.pottier.proofs.BasisLaws.{entries_fit, matrix_again}
 use Rattle.brick_sums.proofs.SumLaws.{slice_get-All}
 use Rattle.graver_complexity.specs.declared.fault.LinkFault.{LinkFault}

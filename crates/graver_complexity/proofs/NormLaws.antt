@@ -12,7 +12,7 @@ use Rattle.lattice_theory.specs.Vectors.{Vector, norm1, is_zero, dot}
 use Rattle.lattice_theory.specs.Matrices.{Matrix}
 use Rattle.lattice_theory.specs.Lattices.{IsSlackBasis}
 use Rattle.lattice_theory.specs.BasisLimits.{IsNarrow, IsBasisElement}
-use Rattle.fold_theory.specs.Links.{counts_in, least_complexity, complexity}
+use Rattle.run_theory.specs.Links.{counts_in, least_complexity, complexity}
 use Rattle.lattice_laws.proofs.Conformal.{norm1-cons}
 use Rattle.lattice_laws.proofs.Elements.{lifted, element-lifted}
 use Rattle.lattice_laws.proofs.UnitVectors.{first_units, length-first_units, units_elements, units_differ, without_rows}

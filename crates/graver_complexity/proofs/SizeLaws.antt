@@ -8,7 +8,7 @@ use Rattle.lattice_theory.specs.Vectors.{Vector, add, sub, zeros, dot, opposite}
 use Rattle.lattice_theory.specs.Matrices.{Matrix, product}
 use Rattle.lattice_theory.specs.BasisLimits.{IsNarrow}
 use Rattle.lattice_theory.specs.SignedSums.{IsSignedSum}
-use Rattle.fold_theory.specs.Links.{link_matrix}
+use Rattle.run_theory.specs.Links.{link_matrix}
 use Rattle.lattice_laws.proofs.Signs.{abs_opposite, abs_sum}
 use Rattle.lattice_laws.proofs.Conformal.{sub-opposite, length-opposite}
 use Rattle.lattice_laws.proofs.Products.{dot-add, dot-opposite, dot-zeros}

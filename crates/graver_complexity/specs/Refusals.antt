@@ -3,7 +3,7 @@ use Rattle.std.specs.Prelude.{◌≡◌, ℕ, ◌+◌, ◌^◌, ◌≤◌, ℤ, 
 use Rattle.lattice_theory.specs.Vectors.{Vector}
 use Rattle.lattice_theory.specs.Matrices.{Matrix}
 use Rattle.lattice_theory.specs.BasisLimits.{IsNarrow}
-use Rattle.fold_theory.specs.Limits.{IsFirstWide}
+use Rattle.run_theory.specs.Limits.{IsFirstWide}
 use Rattle.graver_complexity.specs.declared.fault.LinkFault.{LinkFault}
 use Rattle.graver_complexity.specs.declared.fault.LinkFault.TheVariants.{WideEntry, Memory}
 

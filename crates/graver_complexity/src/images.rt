@@ -3,7 +3,7 @@
 ghost use Rattle.std.specs.Prelude.{◌≡◌, ◌≤◌, ◌<◌, ◌^◌, ◌++◌, length, map, All, IfOk, IfErr, OnOk, SomeIff, unsigned_abs};
 ghost use Rattle.lattice_theory.specs.Vectors as vector;
 ghost use Rattle.lattice_theory.specs.BasisLimits.{IsNarrow};
-ghost use Rattle.fold_theory.specs.Links as links;
+ghost use Rattle.run_theory.specs.Links as links;
 ghost use Rattle.graver_complexity.specs.Refusals.{IsWideEntry, IsWideInRow};
 
 use crate::fault::LinkFault;

@@ -7,7 +7,7 @@ ghost use Rattle.lattice_theory.specs.Matrices.{Matrix, product};
 ghost use Rattle.lattice_theory.specs.Lattices.{IsSlackBasis, kernel};
 ghost use Rattle.lattice_theory.specs.BasisLimits.{IsNarrow};
 ghost use Rattle.lattice_theory.specs.SignedSums.{Sum, IsSignedSum, AreSums};
-ghost use Rattle.fold_theory.specs.Links as links;
+ghost use Rattle.run_theory.specs.Links as links;
 ghost use Rattle.brick_sums.specs.Generators.{AreGenerators};
 
 /// Where there is a generator, there are at least `2·g + 1` sums of at most `g` generators: its multiples by the

@@ -4,8 +4,8 @@ ghost use Rattle.std.specs.Prelude.{◌≡◌, ◌≤◌, ◌<◌, ◌^◌, leng
 ghost use Rattle.lattice_theory.specs.Vectors as vector;
 ghost use Rattle.lattice_theory.specs.Lattices.{IsSlackBasis};
 ghost use Rattle.lattice_theory.specs.BasisLimits.{IsNarrow};
-ghost use Rattle.fold_theory.specs.Links.{counts_in};
-ghost use Rattle.fold_theory.specs.Links as links;
+ghost use Rattle.run_theory.specs.Links.{counts_in};
+ghost use Rattle.run_theory.specs.Links as links;
 
 use fold_theory::Phase;
 use int_vectors::{is_zero, norm1};

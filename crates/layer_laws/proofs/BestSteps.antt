@@ -12,8 +12,8 @@ use Rattle.std.specs.declared.cmp.Ordering.TheVariants.{Less, Equal}
 use Rattle.fold_theory.specs.declared.Phase.{Phase}
 use Rattle.lattice_theory.specs.Vectors.{Vector, lex_cmp, zeros, is_zero}
 use Rattle.fold_theory.specs.Programs.{Program, Bricks, link_rests, phase_cost, IsLength}
-use Rattle.fold_theory.specs.Steps.{moved, gain, AllowsEnd, IsCandidate, Augments, rule_cmp}
-use Rattle.fold_theory.specs.Walks.{WalkCosts}
+use Rattle.run_theory.specs.Steps.{moved, gain, AllowsEnd, IsCandidate, Augments, rule_cmp}
+use Rattle.run_theory.specs.Walks.{WalkCosts}
 use Rattle.lattice_laws.proofs.Tests.{true_or_false}
 use Rattle.layer_laws.proofs.BestWalks.{IsLeastWalk, IsBestWalk}
 use Rattle.layer_laws.proofs.Candidates.{walk_steps, step_walks, moved_nothing}

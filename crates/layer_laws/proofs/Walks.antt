@@ -6,8 +6,8 @@ use Rattle.fold_theory.specs.declared.Phase.{Phase}
 use Rattle.lattice_theory.specs.Vectors.{Vector, add, scale}
 use Rattle.lattice_theory.specs.Matrices.{product}
 use Rattle.fold_theory.specs.Programs.{Program, Brick, Bricks, IsWithin}
-use Rattle.fold_theory.specs.Steps.{partial_sums}
-use Rattle.fold_theory.specs.Walks.{brick_change, end_cost, walk_change, WalkCosts}
+use Rattle.run_theory.specs.Steps.{partial_sums}
+use Rattle.run_theory.specs.Walks.{brick_change, end_cost, walk_change, WalkCosts}
 
 module _ (p : Program) (phase : Phase) (zs : List Vector) (k : ℕ) (rests : Vector) where
   -- the brick's vector after 2 ^ k times the move

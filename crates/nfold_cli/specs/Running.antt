@@ -1,8 +1,8 @@
 -- What the top call answers, what it writes and what it says.
 use Rattle.std.specs.Prelude.{◌≡◌, ◌≢◌, ℕ, ◌⊎◌, List, Option, Some, None, Ok}
 use Rattle.fold_theory.specs.Programs.{Program}
-use Rattle.fold_theory.specs.Certificates.{Certificate}
-use Rattle.fold_theory.specs.Checker.{Accept, claimed_verdict}
+use Rattle.run_theory.specs.Certificates.{Certificate}
+use Rattle.run_theory.specs.Checker.{Accept, claimed_verdict}
 use Rattle.fold_theory.specs.Verdicts.{Holds}
 use Rattle.fold_shelf.specs.Outside.{File, Rose, ForBoth, IsTold, Took, TookPart, Lacks, without}
 use Rattle.fold_files.specs.Reading.{program_in, certificate_in}

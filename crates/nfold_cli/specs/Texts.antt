@@ -5,8 +5,8 @@ use Rattle.fold_theory.specs.declared.Broken.{Broken}
 use Rattle.fold_theory.specs.declared.Broken.TheVariants.{Below, Above, BrickRow, LinkRow}
 use Rattle.fold_theory.specs.declared.Verdict.{Verdict}
 use Rattle.fold_theory.specs.declared.Verdict.TheVariants.{Optimal, InfeasibleBrick, InfeasibleLink}
-use Rattle.fold_theory.specs.declared.Rule.{Rule}
-use Rattle.fold_theory.specs.declared.Rule.TheVariants as rule
+use Rattle.run_theory.specs.declared.Rule.{Rule}
+use Rattle.run_theory.specs.declared.Rule.TheVariants as rule
 use Rattle.mat_files.specs.declared.fault.MatFault.{MatFault}
 use Rattle.mat_files.specs.declared.fault.MatFault.TheVariants as mat
 use Rattle.convex_costs.specs.declared.fault.CostFault.{CostFault}

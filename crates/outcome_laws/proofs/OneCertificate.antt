@@ -12,10 +12,10 @@ use Rattle.lattice_theory.specs.Matrices.{Matrix}
 use Rattle.lattice_theory.specs.SignedSums.{Sum, vectors}
 use Rattle.lattice_laws.proofs.SlackBases.{slack_basis_unique}
 use Rattle.fold_theory.specs.Programs.{Program, Bricks}
-use Rattle.fold_theory.specs.Links.{Bases, AreBases}
-use Rattle.fold_theory.specs.Walks.{IsPotential}
-use Rattle.fold_theory.specs.Certificates.{Certificate, FoldPart, Table}
-use Rattle.fold_theory.specs.Outcomes.{Outcome, ArePotentials, row_of_sum, IsFoldPart, matrix_of_bricks, IsCertificate}
+use Rattle.run_theory.specs.Links.{Bases, AreBases}
+use Rattle.run_theory.specs.Walks.{IsPotential}
+use Rattle.run_theory.specs.Certificates.{Certificate, FoldPart, Table}
+use Rattle.run_theory.specs.Outcomes.{Outcome, ArePotentials, row_of_sum, IsFoldPart, matrix_of_bricks, IsCertificate}
 use Rattle.outcome_laws.proofs.OneOutcome.{bases_unique, brick_sums_unique, saying}
 
 -- lists of one length that have the same at each place are one list

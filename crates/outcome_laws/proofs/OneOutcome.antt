@@ -10,10 +10,10 @@ use Rattle.lattice_theory.specs.Lattices.{IsSlackBasis}
 use Rattle.lattice_theory.specs.SignedSums.{Sum, vectors}
 use Rattle.lattice_laws.proofs.SlackBases.{slack_basis_unique}
 use Rattle.fold_theory.specs.Programs.{Program, Bricks, link_rests, link_miss, phase_cost, cost}
-use Rattle.fold_theory.specs.Links.{Bases, AreBases, generators, links_of, fold_complexity}
-use Rattle.fold_theory.specs.BrickSums.{AreBrickSums}
-use Rattle.fold_theory.specs.BrickRuns.{BrickMove}
-use Rattle.fold_theory.specs.Outcomes.{Outcome, RunRecord, IsRecorded, steps_from, AllSettle, FirstStuck, CountedPart, ClosedPart, IsOutcome}
+use Rattle.run_theory.specs.Links.{Bases, AreBases, generators, links_of, fold_complexity}
+use Rattle.run_theory.specs.BrickSums.{AreBrickSums}
+use Rattle.run_theory.specs.BrickRuns.{BrickMove}
+use Rattle.run_theory.specs.Outcomes.{Outcome, RunRecord, IsRecorded, steps_from, AllSettle, FirstStuck, CountedPart, ClosedPart, IsOutcome}
 use Rattle.outcome_laws.proofs.Runs.{run_unique}
 use Rattle.outcome_laws.proofs.SumLists.{sums_unique}
 use Rattle.outcome_laws.proofs.SettledBricks.{settled_unique, settled_or_stuck, stuck_unique}

@@ -11,8 +11,8 @@ use Rattle.lattice_theory.specs.Vectors.{Vector, lex_cmp}
 use Rattle.lattice_laws.proofs.Rising.{lex_total}
 use Rattle.fold_theory.specs.declared.Phase.{Phase}
 use Rattle.fold_theory.specs.Programs.{Program, Brick, Bricks, phase_cost, brick_residual}
-use Rattle.fold_theory.specs.Steps.{Move, moved, rule_cmp, IsBest, IsRun}
-use Rattle.fold_theory.specs.BrickRuns.{BrickMove, stepped, brick_cmp, IsBestBrickMove, IsBrickRunFrom}
+use Rattle.run_theory.specs.Steps.{Move, moved, rule_cmp, IsBest, IsRun}
+use Rattle.run_theory.specs.BrickRuns.{BrickMove, stepped, brick_cmp, IsBestBrickMove, IsBrickRunFrom}
 
 -- ---- orders
 

@@ -3,8 +3,8 @@ use Rattle.std.proofs.Common.{◌≡◌, ℕ, zero, suc, ◌<◌, List, [], ◌�
 use Rattle.std.proofs.lemmas.Bool.{cases_order}
 use Rattle.lattice_theory.specs.Vectors.{Vector}
 use Rattle.fold_theory.specs.Programs.{Program, Brick, Bricks, brick_residual}
-use Rattle.fold_theory.specs.BrickRuns.{BrickMove, nearest_point, IsBrickRun}
-use Rattle.fold_theory.specs.Outcomes.{AllSettle, FirstStuck}
+use Rattle.run_theory.specs.BrickRuns.{BrickMove, nearest_point, IsBrickRun}
+use Rattle.run_theory.specs.Outcomes.{AllSettle, FirstStuck}
 use Rattle.outcome_laws.proofs.Runs.{brick_run_unique}
 
 module _ (p : Program) (basis : List Vector) where

@@ -7,10 +7,10 @@ ghost use Rattle.std.specs.Prelude.{◌≡◌, List};
 ghost use Rattle.lattice_theory.specs.Vectors.{Vector};
 ghost use Rattle.fold_theory.specs.declared.Phase.{Phase};
 ghost use Rattle.fold_theory.specs.Programs.{Program, Brick, Bricks, IsProgram};
-ghost use Rattle.fold_theory.specs.Steps.{Move, IsBest, IsRun};
-ghost use Rattle.fold_theory.specs.BrickRuns.{BrickMove, IsBrickRunFrom};
-ghost use Rattle.fold_theory.specs.Certificates.{Certificate};
-ghost use Rattle.fold_theory.specs.Outcomes.{Outcome, IsOutcome, IsCertificate};
+ghost use Rattle.run_theory.specs.Steps.{Move, IsBest, IsRun};
+ghost use Rattle.run_theory.specs.BrickRuns.{BrickMove, IsBrickRunFrom};
+ghost use Rattle.run_theory.specs.Certificates.{Certificate};
+ghost use Rattle.run_theory.specs.Outcomes.{Outcome, IsOutcome, IsCertificate};
 
 /// Law: the rule picks one step: two best moves from a point are one move.
 pub fn one_rule_step()

@@ -1,8 +1,8 @@
 -- The state of a round of workers, and which length is better than which.
 use Rattle.std.specs.Prelude.{ℕ, zero, suc, ◌/◌, ◌%◌, ◌^◌, Bool, true, false, List, map, replicate, Option, Some, None, slice_index_or, slice_set}
 use Rattle.std.specs.Option.{option_map, unwrap_or}
-use Rattle.fold_theory.specs.declared.Key.{Key}
-use Rattle.fold_theory.specs.Keys.{beats}
+use Rattle.run_theory.specs.declared.Key.{Key}
+use Rattle.run_theory.specs.Keys.{beats}
 use Rattle.round_core.specs.declared.parts.Fate.{Fate}
 use Rattle.round_core.specs.declared.parts.Fate.TheVariants.{Open}
 use Rattle.round_core.specs.declared.parts.Stand.{Stand}

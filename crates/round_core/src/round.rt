@@ -11,7 +11,7 @@ ghost use Rattle.round_core.specs.declared.events.Event.TheVariants.{Claim, Exch
 
 use crate::events::Event;
 use crate::parts::{Fate, Length, Stand, Worker};
-use fold_theory::Key;
+use run_theory::Key;
 use std::alloc::{AllocError, Global};
 use std::marker::Model;
 use step_lengths::beats;

@@ -3,12 +3,12 @@ use Rattle.std.proofs.Common.{◌≤ℤ◌, List, length, refl}
 use Rattle.fold_theory.specs.declared.Phase.{Phase}
 use Rattle.lattice_theory.specs.SignedSums.{Sum, vectors}
 use Rattle.fold_theory.specs.Programs.{Program, IsProgram, Bricks, phase_cost}
-use Rattle.fold_theory.specs.Links.{Bases, AreBases, generators, fold_complexity}
-use Rattle.fold_theory.specs.BrickSums.{AreBrickSums}
-use Rattle.fold_theory.specs.Steps.{NoneAugments}
+use Rattle.run_theory.specs.Links.{Bases, AreBases, generators, fold_complexity}
+use Rattle.run_theory.specs.BrickSums.{AreBrickSums}
+use Rattle.run_theory.specs.Steps.{NoneAugments}
 use Rattle.yes_laws.proofs.Accepted.{bricks_of}
 use Rattle.yes_laws.proofs.Least.{IsPlaced, IsHeld, points_sized, point-length, least}
-use Rattle.run_laws.specs.Starts.{IsStart}
+use Rattle.run_theory.specs.Starts.{IsStart}
 use Rattle.run_laws.proofs.Frames.{frame_of, sums_quiet}
 use Rattle.run_laws.proofs.UnitSteps.{no_gain}
 

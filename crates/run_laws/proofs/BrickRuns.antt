@@ -11,7 +11,7 @@ use Rattle.lattice_laws.proofs.Members.{contains_cases, contains_head, contains_
 use Rattle.lattice_laws.proofs.Conformal.{length_below, norm_split, norm_some, opposite-opposite}
 use Rattle.lattice_laws.proofs.SlackBases.{IsSigned}
 use Rattle.fold_theory.specs.Programs.{Program, Brick, IsWithin, brick_residual}
-use Rattle.fold_theory.specs.BrickRuns.{nearest, nearest_point, BrickMove, stepped, IsSignedPart, Improves, IsBrickRunFrom, IsBrickRun}
+use Rattle.run_theory.specs.BrickRuns.{nearest, nearest_point, BrickMove, stepped, IsSignedPart, Improves, IsBrickRunFrom, IsBrickRun}
 use Rattle.fold_laws.proofs.Agreement.{length-sub, sub_swap, same_vector}
 use Rattle.fold_laws.proofs.Bounds.{length-within, within_parts}
 use Rattle.fold_laws.proofs.Residuals.{brick_residual_parts}

@@ -12,8 +12,8 @@ use Rattle.lattice_laws.proofs.Conformal.{norm_some, norm_none, norm_of_zero, no
 use Rattle.lattice_laws.proofs.Products.{rows-opposite}
 use Rattle.lattice_laws.proofs.SlackBases.{IsSigned}
 use Rattle.fold_theory.specs.Programs.{Program}
-use Rattle.fold_theory.specs.Links.{Bases, AreBases, complexity, counts_in, generators, links_of, fold_complexity}
-use Rattle.fold_theory.specs.BrickSums.{AreBrickSums}
+use Rattle.run_theory.specs.Links.{Bases, AreBases, complexity, counts_in, generators, links_of, fold_complexity}
+use Rattle.run_theory.specs.BrickSums.{AreBrickSums}
 use Rattle.fold_laws.specs.Elements.{IsNonzeroElement}
 use Rattle.fold_laws.proofs.Reductions.{AreSized}
 use Rattle.yes_laws.proofs.PieceCounts.{LightPart}

@@ -7,7 +7,7 @@ use Rattle.fold_theory.specs.declared.Phase.TheVariants.{Closed, Counted}
 use Rattle.lattice_theory.proofs.KnownValues.{minus}
 use Rattle.fold_theory.specs.Programs.{IsWithin}
 use Rattle.fold_theory.proofs.KnownValues.{brick_with, the_program, point_of, best_point}
-use Rattle.run_laws.specs.Starts.{IsStart}
+use Rattle.run_theory.specs.Starts.{IsStart}
 
 from_zero_to_four : (a b : ℤ) → pos 0 ≤ℤ a → a ≤ℤ pos 4 → pos 0 ≤ℤ b → b ≤ℤ pos 4 → IsWithin (brick_with 4) (a ∷ b ∷ [])
 from_zero_to_four a b low high left right = ((low, (left, tt)), (high, (right, tt)))

@@ -8,15 +8,15 @@ use Rattle.lattice_theory.specs.Matrices.{product}
 use Rattle.lattice_theory.specs.SignedSums.{Sum, vectors}
 use Rattle.lattice_laws.proofs.Products.{rows-add}
 use Rattle.fold_theory.specs.Programs.{Program, Brick, Bricks, IsBrick, IsProgram, phase_cost}
-use Rattle.fold_theory.specs.Links.{Bases, AreBases}
-use Rattle.fold_theory.specs.BrickSums.{AreBrickSums}
-use Rattle.fold_theory.specs.Steps.{Move, moved, NoneAugments, IsRun}
+use Rattle.run_theory.specs.Links.{Bases, AreBases}
+use Rattle.run_theory.specs.BrickSums.{AreBrickSums}
+use Rattle.run_theory.specs.Steps.{Move, moved, NoneAugments, IsRun}
 use Rattle.fold_laws.proofs.Agreement.{add_zeros}
 use Rattle.fold_laws.proofs.Multiples.{scale-zeros, length-scale, rows-scale}
 use Rattle.fold_laws.proofs.Reductions.{AreSized}
 use Rattle.yes_laws.proofs.Accepted.{bricks_of}
 use Rattle.yes_laws.proofs.Least.{points_sized}
-use Rattle.run_laws.specs.Starts.{IsStart}
+use Rattle.run_theory.specs.Starts.{IsStart}
 use Rattle.run_laws.proofs.SignedLists.{IsQuiet}
 use Rattle.run_laws.proofs.Frames.{sums_quiet}
 use Rattle.run_laws.proofs.Best.{finished_is_best}

@@ -17,13 +17,13 @@ use Rattle.lattice_theory.proofs.KnownValues.{minus}
 use Rattle.lattice_laws.proofs.Members.{contains_cases, contains_head, contains_tail}
 use Rattle.lattice_laws.proofs.Conformal.{norm_some, below_same}
 use Rattle.fold_theory.specs.Programs.{Program, Brick, Bricks, IsBrick, IsProgram, AreWithin, phase_cost}
-use Rattle.fold_theory.specs.Links.{Bases, AreBases}
-use Rattle.fold_theory.specs.BrickSums.{AreBrickSums}
-use Rattle.fold_theory.specs.Steps.{NoneAugments}
+use Rattle.run_theory.specs.Links.{Bases, AreBases}
+use Rattle.run_theory.specs.BrickSums.{AreBrickSums}
+use Rattle.run_theory.specs.Steps.{NoneAugments}
 use Rattle.fold_theory.specs.Verdicts.{Holds}
-use Rattle.fold_theory.specs.Outcomes.{Outcome, IsOutcome, HoldsAt, bound_number}
+use Rattle.run_theory.specs.Outcomes.{Outcome, IsOutcome, HoldsAt, bound_number}
 use Rattle.fold_theory.proofs.KnownValues.{square}
-use Rattle.run_laws.specs.Starts.{IsStart}
+use Rattle.run_theory.specs.Starts.{IsStart}
 use Rattle.run_laws.proofs.Best.{finished_is_best}
 use Rattle.run_laws.proofs.Stuck.{stuck_holds}
 use Rattle.run_laws.proofs.TrueOutcomes.{outcome_holds}

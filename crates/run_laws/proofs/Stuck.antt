@@ -4,7 +4,7 @@ use Rattle.fold_theory.specs.declared.Verdict.TheVariants.{InfeasibleBrick}
 use Rattle.lattice_theory.specs.Vectors.{Vector}
 use Rattle.lattice_theory.specs.Lattices.{IsSlackBasis}
 use Rattle.fold_theory.specs.Programs.{Program, Brick, IsProgram, brick_residual}
-use Rattle.fold_theory.specs.BrickRuns.{BrickMove, IsBrickRun}
+use Rattle.run_theory.specs.BrickRuns.{BrickMove, IsBrickRun}
 use Rattle.fold_theory.specs.Verdicts.{Holds}
 use Rattle.fold_laws.proofs.BrickMisses.{brick_at, infeasible}
 use Rattle.run_laws.proofs.BrickRuns.{brick_run_end, least_at_end}

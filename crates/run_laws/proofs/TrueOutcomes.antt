@@ -12,12 +12,12 @@ use Rattle.lattice_laws.proofs.Conformal.{norm_none}
 use Rattle.lattice_laws.proofs.Products.{length-rows}
 use Rattle.fold_theory.specs.Programs.{Program, Brick, Bricks, IsBrick, IsProgram, IsFeasible, AreWithin, brick_residual, link_rests, link_miss, cost}
 use Rattle.fold_theory.specs.Verdicts.{Holds}
-use Rattle.fold_theory.specs.Links.{Bases, AreBases}
-use Rattle.fold_theory.specs.BrickRuns.{BrickMove}
-use Rattle.fold_theory.specs.Outcomes.{Outcome, RunRecord, AllSettle, FirstStuck, CountedPart, ClosedPart, IsOutcome, HoldsAt}
+use Rattle.run_theory.specs.Links.{Bases, AreBases}
+use Rattle.run_theory.specs.BrickRuns.{BrickMove}
+use Rattle.run_theory.specs.Outcomes.{Outcome, RunRecord, AllSettle, FirstStuck, CountedPart, ClosedPart, IsOutcome, HoldsAt}
 use Rattle.fold_laws.proofs.Agreement.{same_vector}
 use Rattle.yes_laws.proofs.Accepted.{bricks_of}
-use Rattle.run_laws.specs.Starts.{IsStart}
+use Rattle.run_theory.specs.Starts.{IsStart}
 use Rattle.run_laws.proofs.BrickRuns.{brick_run_end}
 use Rattle.run_laws.proofs.Stuck.{stuck_holds}
 use Rattle.run_laws.proofs.PhaseRuns.{run_best}

@@ -11,8 +11,8 @@ use Rattle.lattice_theory.specs.Matrices.{product}
 use Rattle.lattice_laws.proofs.Tests.{and_true, true_or_false}
 use Rattle.lattice_laws.proofs.Products.{length-zeros, zeros_is}
 use Rattle.fold_theory.specs.Programs.{Program, Brick, Bricks, AreWithin, link_rests, link_miss, phase_cost}
-use Rattle.fold_theory.specs.Steps.{moved, partial_sums, AllowsEnd, IsCandidate, NoneAugments}
-use Rattle.fold_theory.specs.Walks.{end_cost, walk_end}
+use Rattle.run_theory.specs.Steps.{moved, partial_sums, AllowsEnd, IsCandidate, NoneAugments}
+use Rattle.run_theory.specs.Walks.{end_cost, walk_end}
 use Rattle.fold_laws.proofs.Agreement.{add_zeros, zeros_add}
 use Rattle.fold_laws.proofs.Reductions.{AreSized}
 use Rattle.fold_laws.proofs.Terms.{sum_of}

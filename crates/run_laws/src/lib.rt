@@ -9,13 +9,13 @@ ghost use Rattle.lattice_theory.specs.SignedSums.{Sum, vectors};
 ghost use Rattle.fold_theory.specs.declared.Phase.{Phase};
 ghost use Rattle.fold_theory.specs.declared.Verdict.TheVariants.{InfeasibleBrick};
 ghost use Rattle.fold_theory.specs.Programs.{Program, Brick, IsProgram, Bricks, phase_cost, brick_residual};
-ghost use Rattle.fold_theory.specs.Links.{Bases, AreBases};
-ghost use Rattle.fold_theory.specs.BrickSums.{AreBrickSums};
-ghost use Rattle.fold_theory.specs.Steps.{NoneAugments};
-ghost use Rattle.fold_theory.specs.BrickRuns.{BrickMove, IsBrickRun};
+ghost use Rattle.run_theory.specs.Links.{Bases, AreBases};
+ghost use Rattle.run_theory.specs.BrickSums.{AreBrickSums};
+ghost use Rattle.run_theory.specs.Steps.{NoneAugments};
+ghost use Rattle.run_theory.specs.BrickRuns.{BrickMove, IsBrickRun};
 ghost use Rattle.fold_theory.specs.Verdicts.{Holds};
-ghost use Rattle.fold_theory.specs.Outcomes.{Outcome, IsOutcome, HoldsAt};
-ghost use Rattle.run_laws.specs.Starts.{IsStart};
+ghost use Rattle.run_theory.specs.Outcomes.{Outcome, IsOutcome, HoldsAt};
+ghost use Rattle.run_theory.specs.Starts.{IsStart};
 
 /// Law: where the rule has no step, no such point is better: of the points within the bounds that meet the brick
 /// rows, and in the closed phase the linking rows too, none has a lower phase cost than one from which no step

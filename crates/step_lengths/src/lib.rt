@@ -3,10 +3,10 @@
 #![tactic(auto)]
 
 ghost use Rattle.std.specs.Prelude.{◌≡◌, ◌≤◌, ◌^◌};
-ghost use Rattle.fold_theory.specs.Keys as keys;
+ghost use Rattle.run_theory.specs.Keys as keys;
 ghost use Rattle.step_lengths.specs.Lengths.{IsLengthCount};
 
-pub use fold_theory::Key;
+pub use run_theory::Key;
 
 /// How many step lengths 2^0, 2^1, .. there are for a range of this width: those that are at most the width, and 2^0
 /// always.

@@ -6,8 +6,8 @@ use Rattle.std.specs.List.{AllZip, AllByRecursion}
 use Rattle.std.proofs.lemmas.List.Elements.{recursion_from_All}
 use Rattle.fold_theory.specs.declared.Phase.{Phase}
 use Rattle.fold_theory.specs.declared.Phase.TheVariants.{Closed, Counted}
-use Rattle.fold_theory.specs.declared.Claim.{Claim}
-use Rattle.fold_theory.specs.declared.Claim.TheVariants as claim
+use Rattle.run_theory.specs.declared.Claim.{Claim}
+use Rattle.run_theory.specs.declared.Claim.TheVariants as claim
 use Rattle.fold_theory.specs.declared.Verdict.TheVariants.{Optimal, InfeasibleLink}
 use Rattle.lattice_theory.specs.Lists.{all_zip}
 use Rattle.lattice_theory.specs.Vectors.{Vector, norm1, sub, zeros}
@@ -18,10 +18,10 @@ use Rattle.lattice_laws.proofs.Tests.{and_true}
 use Rattle.lattice_laws.proofs.Conformal.{norm_none}
 use Rattle.lattice_laws.proofs.Products.{length-rows}
 use Rattle.fold_theory.specs.Programs.{Program, Brick, Bricks, IsBrick, IsProgram, AreWithin, MeetsBrickRows, is_within, brick_residual, link_rests, link_miss, cost, phase_cost}
-use Rattle.fold_theory.specs.Steps.{AllowsEnd}
-use Rattle.fold_theory.specs.Links.{complexity}
-use Rattle.fold_theory.specs.Certificates.{Certificate, FoldPart, listed_sums}
-use Rattle.fold_theory.specs.Checker.{at_most, potential_of, layers_hold, starts_at_zero, sums_are_closed, point_fits, parts_fit, fold_rules, first_failing, listed_generators, listed_links, Accept, claimed_verdict}
+use Rattle.run_theory.specs.Steps.{AllowsEnd}
+use Rattle.run_theory.specs.Links.{complexity}
+use Rattle.run_theory.specs.Certificates.{Certificate, FoldPart, listed_sums}
+use Rattle.run_theory.specs.Checker.{at_most, potential_of, layers_hold, starts_at_zero, sums_are_closed, point_fits, parts_fit, fold_rules, first_failing, listed_generators, listed_links, Accept, claimed_verdict}
 use Rattle.fold_theory.specs.Verdicts.{Holds}
 use Rattle.fold_laws.proofs.Agreement.{same_vector}
 use Rattle.fold_laws.proofs.Bounds.{is_within_true, int_le_true}

@@ -13,7 +13,7 @@ use Rattle.lattice_laws.proofs.Members.{contains_cases, contains_head, contains_
 use Rattle.lattice_laws.proofs.Tests.{not_both}
 use Rattle.lattice_laws.proofs.Conformal.{norm_some, norm_none, norm_of_zero, norm_below, norm-opposite, nonzero_of_norm}
 use Rattle.lattice_laws.proofs.Products.{rows-opposite}
-use Rattle.fold_theory.specs.Links.{complexity, counts_in}
+use Rattle.run_theory.specs.Links.{complexity, counts_in}
 use Rattle.fold_laws.specs.Elements.{IsNonzeroElement}
 use Rattle.fold_laws.proofs.Parts.{part_of_complete}
 use Rattle.fold_laws.proofs.CompleteLists.{complete_elements}

@@ -5,10 +5,11 @@ use Rattle.std.proofs.lemmas.List.Elements.{All-from_recursion}
 use Rattle.fold_theory.specs.declared.Verdict.TheVariants.{Optimal, InfeasibleLink}
 use Rattle.lattice_theory.proofs.KnownValues.{minus}
 use Rattle.fold_theory.specs.Programs.{Program, IsBrick, IsProgram}
-use Rattle.fold_theory.specs.Certificates.{Certificate}
-use Rattle.fold_theory.specs.Checker.{Accept, claimed_verdict}
+use Rattle.run_theory.specs.Certificates.{Certificate}
+use Rattle.run_theory.specs.Checker.{Accept, claimed_verdict}
 use Rattle.fold_theory.specs.Verdicts.{Holds}
-use Rattle.fold_theory.proofs.KnownValues.{program_with, certificate_with, link_certificate}
+use Rattle.fold_theory.proofs.KnownValues.{program_with}
+use Rattle.run_theory.proofs.KnownValues.{certificate_with, link_certificate}
 use Rattle.fold_laws.proofs.KnownValues.{one_brick, one_row}
 use Rattle.yes_laws.proofs.Accepted.{yes_holds}
 

@@ -12,8 +12,8 @@ use Rattle.lattice_theory.specs.Matrices.{product}
 use Rattle.lattice_laws.proofs.Conformal.{norm_none, sub-opposite, length-add}
 use Rattle.lattice_laws.proofs.Products.{length-rows, length-zeros}
 use Rattle.fold_theory.specs.Programs.{Program, Brick, Bricks, IsBrick, AreWithin, MeetsBrickRows, brick_cost, link_rests, link_miss, phase_cost}
-use Rattle.fold_theory.specs.Steps.{AllowsEnd, partial_sums}
-use Rattle.fold_theory.specs.Walks.{brick_change, end_cost, walk_end}
+use Rattle.run_theory.specs.Steps.{AllowsEnd, partial_sums}
+use Rattle.run_theory.specs.Walks.{brick_change, end_cost, walk_end}
 use Rattle.fold_laws.proofs.Agreement.{add_assoc_v, add_zeros, zeros_add, same_vector}
 use Rattle.fold_laws.proofs.BrickMisses.{no_rest}
 use Rattle.fold_laws.proofs.Bounds.{length-within}

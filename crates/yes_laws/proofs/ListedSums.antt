@@ -9,7 +9,7 @@ use Rattle.lattice_laws.proofs.Tests.{and_true, same_true}
 use Rattle.lattice_laws.proofs.Members.{contains_cases, contains_head, contains_tail}
 use Rattle.lattice_laws.proofs.Conformal.{norm1-cons, length-add, length-opposite, sub-opposite}
 use Rattle.lattice_laws.proofs.Products.{times_opposite, length-zeros}
-use Rattle.fold_theory.specs.Checker.{is_sum_within, sums_are_closed}
+use Rattle.run_theory.specs.Checker.{is_sum_within, sums_are_closed}
 use Rattle.fold_laws.proofs.Agreement.{add_assoc_v, add_zeros, zeros_add}
 use Rattle.fold_laws.proofs.Multiples.{scale_zero, scale_suc, scale_negsuc, length-scale}
 use Rattle.fold_laws.proofs.Reductions.{AreSized}

@@ -10,8 +10,8 @@ use Rattle.lattice_theory.specs.Matrices.{Matrix, product}
 use Rattle.lattice_laws.proofs.Conformal.{norm_none, length-add}
 use Rattle.lattice_laws.proofs.Products.{rows-zeros, length-rows, length-zeros, zeros_is}
 use Rattle.fold_theory.specs.Programs.{Program}
-use Rattle.fold_theory.specs.Links.{link_matrix}
-use Rattle.fold_theory.specs.Steps.{partial_sums}
+use Rattle.run_theory.specs.Links.{link_matrix}
+use Rattle.run_theory.specs.Steps.{partial_sums}
 use Rattle.fold_laws.proofs.Terms.{sum_of, weight}
 use Rattle.fold_laws.proofs.Reductions.{AreSized}
 use Rattle.yes_laws.proofs.Shares.{StayWithin}

@@ -4,8 +4,8 @@
 #![tactic(auto)]
 
 ghost use Rattle.fold_theory.specs.Programs.{Program, IsProgram};
-ghost use Rattle.fold_theory.specs.Certificates.{Certificate};
-ghost use Rattle.fold_theory.specs.Checker.{Accept, claimed_verdict};
+ghost use Rattle.run_theory.specs.Certificates.{Certificate};
+ghost use Rattle.run_theory.specs.Checker.{Accept, claimed_verdict};
 ghost use Rattle.fold_theory.specs.Verdicts.{Holds};
 
 /// Law: a certificate that breaks no rule shows what it claims: that the point of the certificate is feasible and no

@@ -4,7 +4,7 @@ ghost use Rattle.std.specs.Prelude.{◌≡◌, ◌++◌, Ok, IfOk, OnOk};
 ghost use Rattle.certificate.specs.CertificateText.{claim_text, certificate_text, parsed_certificate};
 
 use super::Certificate;
-use fold_theory::Claim;
+use run_theory::Claim;
 use itoa::Buffer;
 use std::alloc::{AllocError, Global};
 

@@ -1,6 +1,6 @@
 use Rattle.std.proofs.Common.{◌≡◌, ◌+◌, ◌<◌, length, arith, sym, ap, subst}
 use Rattle.std.proofs.lemmas.List.{length-map}
-use Rattle.fold_theory.specs.BrickRuns.{BrickMove}
+use Rattle.run_theory.specs.BrickRuns.{BrickMove}
 use Rattle.brick_phase.specs.Moves.{vectors}
 use Rattle.brick_phase.specs.Offers.{IsOfferOf, IsBestOf}
 use Rattle.brick_phase.proofs.MoveLaws.{vectors-at, FitMoves-at}

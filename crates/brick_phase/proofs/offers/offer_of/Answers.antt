@@ -1,7 +1,7 @@
 use Rattle.std.proofs.Common.{◌≡◌, ◌≤ℤ◌, length, arith, ap, subst, ◌∙◌}
 use Rattle.std.proofs.lemmas.List.Elements.{length_all_zip}
 use Rattle.fold_theory.specs.Programs.{brick_residual}
-use Rattle.fold_theory.specs.BrickRuns.{BrickMove, stepped}
+use Rattle.run_theory.specs.BrickRuns.{BrickMove, stepped}
 use Rattle.fold_program.specs.Places.{OfBrick}
 use Rattle.brick_phase.specs.Bounds.{Leads}
 use Rattle.brick_phase.proofs.OfferLaws.{place_width, led, nothing_outside, nothing_lower, offered}

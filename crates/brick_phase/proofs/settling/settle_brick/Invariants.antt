@@ -1,4 +1,4 @@
-use Rattle.fold_theory.specs.BrickRuns.{nearest_point}
+use Rattle.run_theory.specs.BrickRuns.{nearest_point}
 use Rattle.brick_phase.specs.Offers.{ForBrick, IsPlace}
 use Rattle.brick_phase.proofs.SettleLaws.{LeadsOn}
 use Rattle.brick_phase.proofs.settling.settle_brick.Given as goal

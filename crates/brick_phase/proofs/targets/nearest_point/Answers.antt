@@ -1,7 +1,7 @@
 use Rattle.std.proofs.Common.{◌≡◌, ◌≤ℤ◌, ◌++◌, ◌∷◌, [], pos, get_or, arith, rules, w64, FitsSigned, ◌∙◌, ap}
 use Rattle.std.proofs.lemmas.Int.{to_z-of_z}
 use Rattle.std.proofs.lemmas.List.Elements.{AllZip-get_or, length_all_zip}
-use Rattle.fold_theory.specs.BrickRuns.{nearest}
+use Rattle.run_theory.specs.BrickRuns.{nearest}
 use Rattle.brick_phase.proofs.BoundLaws.{AreBetween-more, AreBetween-all, zip_with-more, zip_with-all}
 use Rattle.brick_phase.proofs.targets.nearest_point.Goals as goal
 

@@ -1,6 +1,6 @@
 use Rattle.std.proofs.Common.{◌≡◌, take}
 use Rattle.lattice_theory.specs.Lists.{zip_with}
-use Rattle.fold_theory.specs.BrickRuns.{nearest}
+use Rattle.run_theory.specs.BrickRuns.{nearest}
 use Rattle.brick_phase.specs.Bounds.{AreBetween}
 use Rattle.brick_phase.proofs.targets.nearest_point.Given as goal
 

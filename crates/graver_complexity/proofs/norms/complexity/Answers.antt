@@ -1,6 +1,6 @@
 use Rattle.std.proofs.Common.{◌≤◌, ◌+◌, ◌∙◌, arith, ap, sym, subst, length, take}
 use Rattle.lattice_theory.specs.Vectors.{norm1}
-use Rattle.fold_theory.specs.Links.{counts_in}
+use Rattle.run_theory.specs.Links.{counts_in}
 use Rattle.lattice_laws.proofs.Elements.{width}
 use Rattle.graver_complexity.proofs.NormLaws.{IsGreatest, greatest_none, greatest_counted, greatest_left, greatest_all, cols-few, cols-element}
 use Rattle.graver_complexity.proofs.norms.complexity.Goals as goal

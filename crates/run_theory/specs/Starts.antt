@@ -1,7 +1,7 @@
 -- Where the steps of a phase start.
 use Rattle.fold_theory.specs.declared.Phase.{Phase}
 use Rattle.fold_theory.specs.Programs.{Program, Bricks, AreWithin, MeetsBrickRows}
-use Rattle.fold_theory.specs.Steps.{AllowsEnd}
+use Rattle.run_theory.specs.Steps.{AllowsEnd}
 
 -- x is within the bounds and meets the brick rows, and the phase allows it as the end of a step
 pub record IsStart (p : Program) (phase : Phase) (x : Bricks) : Type 0 where

@@ -1,6 +1,6 @@
 -- The data of a certificate.
 use Rattle.std.specs.Prelude.{ℕ, zero, suc, ℤ, List, [], ◌∷◌, map, take, drop, Option, unsigned_abs}
-use Rattle.fold_theory.specs.declared.Claim.{Claim}
+use Rattle.run_theory.specs.declared.Claim.{Claim}
 use Rattle.lattice_theory.specs.Vectors.{Vector}
 use Rattle.lattice_theory.specs.Matrices.{Matrix}
 use Rattle.lattice_theory.specs.SignedSums.{Sum}

@@ -3,7 +3,7 @@ use Rattle.std.specs.Prelude.{ℕ, List}
 use Rattle.lattice_theory.specs.SignedSums.{Sum, AreSums, ExceedsSumsOf}
 use Rattle.fold_theory.specs.declared.Phase.{Phase}
 use Rattle.fold_theory.specs.Programs.{Program}
-use Rattle.fold_theory.specs.Links.{Bases, generators, fold_complexity}
+use Rattle.run_theory.specs.Links.{Bases, generators, fold_complexity}
 
 -- all sums of at most as many signed generators as the complexity of the program in this phase
 abbrev pub AreBrickSums : Program → Phase → Bases → List Sum → Type 0

@@ -3,9 +3,9 @@ use Rattle.std.specs.Prelude.{◌≡◌, ℕ, suc, ◌+◌, ◌-◌, ℤ, pos, �
 use Rattle.std.specs.List.{list_all, list_any}
 use Rattle.fold_theory.specs.declared.Phase.{Phase}
 use Rattle.fold_theory.specs.declared.Phase.TheVariants.{Closed, Counted}
-use Rattle.fold_theory.specs.declared.Claim.TheVariants as claim
-use Rattle.fold_theory.specs.declared.Rule.{Rule}
-use Rattle.fold_theory.specs.declared.Rule.TheVariants.{C1, C2, C3, C4, C5, C6, C7, B1, B2}
+use Rattle.run_theory.specs.declared.Claim.TheVariants as claim
+use Rattle.run_theory.specs.declared.Rule.{Rule}
+use Rattle.run_theory.specs.declared.Rule.TheVariants.{C1, C2, C3, C4, C5, C6, C7, B1, B2}
 use Rattle.fold_theory.specs.declared.Verdict.{Verdict}
 use Rattle.fold_theory.specs.declared.Verdict.TheVariants.{Optimal, InfeasibleBrick, InfeasibleLink}
 use Rattle.lattice_theory.specs.Lists.{all_zip}
@@ -13,10 +13,10 @@ use Rattle.lattice_theory.specs.Vectors.{Vector, add, sub, zeros, same, is_risin
 use Rattle.lattice_theory.specs.Matrices.{Matrix, product, has_shape}
 use Rattle.lattice_theory.specs.Lattices.{is_complete_for, kernel, first_parts}
 use Rattle.fold_theory.specs.Programs.{Program, Brick, Bricks, is_within, brick_residual, link_rests, link_miss, cost}
-use Rattle.fold_theory.specs.Links.{link_matrix, complexity}
+use Rattle.run_theory.specs.Links.{link_matrix, complexity}
 use Rattle.lattice_theory.specs.SignedSums.{Sum, vectors}
-use Rattle.fold_theory.specs.Walks.{brick_change, end_cost}
-use Rattle.fold_theory.specs.Certificates.{FoldPart, Certificate, listed_sums}
+use Rattle.run_theory.specs.Walks.{brick_change, end_cost}
+use Rattle.run_theory.specs.Certificates.{FoldPart, Certificate, listed_sums}
 
 -- the vectors v of the listed (v, 0), and the matrix of their images
 abbrev pub listed_generators : Program → Certificate → List Vector
@@ -115,7 +115,7 @@ fold_rules p phase c f =
     (C1, parts_fit p c f && point_fits p phase c.point.rows)
     ∷ (C2, is_complete_for p.brick c.bricks.rows)
     ∷ (C3, is_complete_for (listed_links p c) f.links.rows)
-    ∷ (C4, nat_le (complexity phase (listed_links p c) f.links.rows) f.bound)
+    ∷ (C4, nat_le (complexity phase p.relations (listed_links p c) f.links.rows) f.bound)
     ∷ (C5, sums_are_closed p.brick.cols (listed_generators p c) f.bound sums)
     ∷ (
       C6,

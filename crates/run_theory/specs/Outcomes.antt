@@ -4,20 +4,20 @@ use Rattle.fold_theory.specs.declared.Phase.{Phase}
 use Rattle.fold_theory.specs.declared.Phase.TheVariants.{Closed, Counted}
 use Rattle.fold_theory.specs.declared.Verdict.{Verdict}
 use Rattle.fold_theory.specs.declared.Verdict.TheVariants.{Optimal, InfeasibleBrick, InfeasibleLink}
-use Rattle.fold_theory.specs.declared.Claim.TheVariants as claim
+use Rattle.run_theory.specs.declared.Claim.TheVariants as claim
 use Rattle.lattice_theory.specs.Lists.{greatest}
 use Rattle.lattice_theory.specs.Vectors.{Vector, is_zero}
 use Rattle.lattice_theory.specs.Matrices.{Matrix, product}
 use Rattle.lattice_theory.specs.Lattices.{IsSlackBasis}
 use Rattle.fold_theory.specs.Programs.{Program, Brick, Bricks, IsFeasible, brick_residual, link_rests, link_miss, phase_cost, cost}
 use Rattle.fold_theory.specs.Verdicts.{Holds}
-use Rattle.fold_theory.specs.Links.{Bases, AreBases, generators, fold_complexity}
+use Rattle.run_theory.specs.Links.{Bases, AreBases, generators, fold_complexity}
 use Rattle.lattice_theory.specs.SignedSums.{Sum, vectors}
-use Rattle.fold_theory.specs.BrickSums.{AreBrickSums}
-use Rattle.fold_theory.specs.Steps.{Move, moved, gain, IsRun}
-use Rattle.fold_theory.specs.BrickRuns.{BrickMove, IsBrickRun}
-use Rattle.fold_theory.specs.Walks.{IsPotential}
-use Rattle.fold_theory.specs.Certificates.{Certificate, FoldPart, Table}
+use Rattle.run_theory.specs.BrickSums.{AreBrickSums}
+use Rattle.run_theory.specs.Steps.{Move, moved, gain, IsRun}
+use Rattle.run_theory.specs.BrickRuns.{BrickMove, IsBrickRun}
+use Rattle.run_theory.specs.Walks.{IsPotential}
+use Rattle.run_theory.specs.Certificates.{Certificate, FoldPart, Table}
 
 -- a step as it is recorded: the bricks with a nonzero part, numbered from 1, and their entries
 pub record Step : Type 0 where

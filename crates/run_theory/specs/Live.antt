@@ -2,12 +2,12 @@
 use Rattle.std.specs.Prelude.{◌≡◌, ℕ, ◌*◌, ◌^◌, ◌<◌, ◌≤◌, ℤ, pos, ◌+ℤ◌, ◌<ℤ◌, unsigned_abs, false, List, [], ◌∷◌, map, filter, take, length, All, Contains, Option, Some}
 use Rattle.std.specs.Int.{int_min}
 use Rattle.fold_theory.specs.declared.Phase.{Phase}
-use Rattle.fold_theory.specs.declared.Key.{Key}
+use Rattle.run_theory.specs.declared.Key.{Key}
 use Rattle.lattice_theory.specs.Lists.{sum_zip}
 use Rattle.lattice_theory.specs.Vectors.{Vector, add, scale}
 use Rattle.fold_theory.specs.Programs.{Program, Brick, Bricks, is_within}
-use Rattle.fold_theory.specs.Walks.{IsPotential, brick_change}
-use Rattle.fold_theory.specs.Keys.{beaten}
+use Rattle.run_theory.specs.Walks.{IsPotential, brick_change}
+use Rattle.run_theory.specs.Keys.{beaten}
 
 -- the least of the numbers, and 0 of none
 abbrev pub least : List ℤ → ℤ

@@ -5,7 +5,7 @@ use Rattle.fold_theory.specs.declared.Phase.TheVariants.{Closed, Counted}
 use Rattle.lattice_theory.specs.Vectors.{Vector, add, sub, scale}
 use Rattle.lattice_theory.specs.Matrices.{product}
 use Rattle.fold_theory.specs.Programs.{Program, Brick, Bricks, link_rests, link_miss, brick_cost}
-use Rattle.fold_theory.specs.Steps.{IsWalk}
+use Rattle.run_theory.specs.Steps.{IsWalk}
 
 -- what the phase cost of a brick changes by, from v to u
 abbrev pub brick_change : Phase → Brick → Vector → Vector → ℤ

@@ -3,11 +3,12 @@ use Rattle.std.specs.Prelude.{ℕ, max, Bool, true, List, map, length, take, dro
 use Rattle.std.specs.List.{list_all}
 use Rattle.fold_theory.specs.declared.Phase.{Phase}
 use Rattle.fold_theory.specs.declared.Phase.TheVariants.{Closed, Counted}
+use Rattle.fold_theory.specs.declared.Relation.{Relation}
 use Rattle.lattice_theory.specs.Lists.{greatest}
 use Rattle.lattice_theory.specs.Vectors.{Vector, dot, norm1, is_zero}
 use Rattle.lattice_theory.specs.Matrices.{Matrix}
 use Rattle.lattice_theory.specs.Lattices.{IsSlackBasis, kernel}
-use Rattle.fold_theory.specs.Programs.{Program, keeps_links}
+use Rattle.fold_theory.specs.Programs.{Program, keeps_equations}
 
 -- the matrix with the columns A1·v, for the vectors in order
 abbrev pub link_matrix : Matrix → List Vector → Matrix
@@ -17,15 +18,15 @@ link_matrix link vectors = record { cols = length vectors; rows = map (λ row. m
 abbrev pub least_complexity : Matrix → ℕ
 least_complexity m = cond (list_all is_zero m.rows) 1 2
 
--- the first part w of the listed (w, M·w) counts in this phase
-abbrev pub counts_in : Phase → ℕ → Vector → Bool
-counts_in Closed cols z = keeps_links (drop cols z)
-counts_in Counted cols z = true
+-- the first part w of the listed (w, M·w) counts in this phase: in phase Closed where M·w is 0 in each equation
+abbrev pub counts_in : Phase → List Relation → ℕ → Vector → Bool
+counts_in Closed relations cols z = keeps_equations relations (drop cols z)
+counts_in Counted relations cols z = true
 
 -- the greatest 1-norm of a first part that counts, and at least the least value
-abbrev pub complexity : Phase → Matrix → List Vector → ℕ
-complexity phase m basis =
-    max (least_complexity m) (greatest (map (λ z. norm1 (take m.cols z)) (filter (counts_in phase m.cols) basis)))
+abbrev pub complexity : Phase → List Relation → Matrix → List Vector → ℕ
+complexity phase relations m basis =
+    max (least_complexity m) (greatest (map (λ z. norm1 (take m.cols z)) (filter (counts_in phase relations m.cols) basis)))
 
 -- the slack basis of the brick matrix, and that of the link matrix
 pub record Bases : Type 0 where
@@ -45,4 +46,4 @@ pub record AreBases (p : Program) (b : Bases) : Type 0 where
 
 -- the complexity of the program in this phase
 abbrev pub fold_complexity : Program → Phase → Bases → ℕ
-fold_complexity p phase b = complexity phase (links_of p b.brick) b.links
+fold_complexity p phase b = complexity phase p.relations (links_of p b.brick) b.links

@@ -2,17 +2,17 @@
 use Rattle.std.specs.Prelude.{◌≡◌, ℕ, ◌+◌, ◌*◌, ◌^◌, ◌<◌, ◌≤◌, ℤ, unsigned_abs, List, length, All, slice_get, Some, Option}
 use Rattle.fold_theory.specs.declared.Phase.{Phase}
 use Rattle.fold_theory.specs.declared.Phase.TheVariants.{Closed, Counted}
-use Rattle.fold_theory.specs.declared.SolveFault.{SolveFault}
-use Rattle.fold_theory.specs.declared.SolveFault.TheVariants as fault
+use Rattle.run_theory.specs.declared.SolveFault.{SolveFault}
+use Rattle.run_theory.specs.declared.SolveFault.TheVariants as fault
 use Rattle.lattice_theory.specs.Vectors.{Vector}
 use Rattle.lattice_theory.specs.Matrices.{Matrix}
 use Rattle.fold_theory.specs.Programs.{Program, Bricks, link_rests, link_miss}
-use Rattle.fold_theory.specs.Links.{Bases, links_of}
+use Rattle.run_theory.specs.Links.{Bases, links_of}
 use Rattle.lattice_theory.specs.SignedSums.{Sum}
 use Rattle.lattice_theory.specs.BasisLimits.{IsNarrow, ExceedsBasis, IsBasisWithin}
-use Rattle.fold_theory.specs.BrickSums.{AreBrickSums, ExceedsSums}
-use Rattle.fold_theory.specs.BrickRuns.{BrickMove}
-use Rattle.fold_theory.specs.Outcomes.{AllSettle, CountedPart, RunRecord}
+use Rattle.run_theory.specs.BrickSums.{AreBrickSums, ExceedsSums}
+use Rattle.run_theory.specs.BrickRuns.{BrickMove}
+use Rattle.run_theory.specs.Outcomes.{AllSettle, CountedPart, RunRecord}
 
 -- the most elements of a basis and the most sums that are allowed
 pub record Caps : Type 0 where

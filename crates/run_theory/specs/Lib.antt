@@ -1,0 +1,16 @@
+pub mod Links
+pub mod BrickSums
+pub mod Steps
+pub mod BrickRuns
+pub mod Starts
+pub mod Walks
+pub mod Keys
+pub mod Live
+pub mod Certificates
+pub mod Checker
+pub mod Outcomes
+pub mod Digits
+pub mod Limits
+pub mod Folds
+pub mod Bests
+pub mod Solved
