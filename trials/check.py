@@ -5,7 +5,7 @@
 
 The program is that of crates/nfold/out unless another is given. The texts are the certificate of examples/brick cut
 at each byte, and with each token left out, doubled, exchanged with the next one, or replaced by one of a list. What
-the grammar in docs/FORMATS.md and the rules in docs/RULES.md say of a text is worked out here anew, with no part of
+the grammar and the rules in docs/FORMATS.md say of a text is worked out here anew, with no part of
 the program. The answers that differ are printed, and the status is 1 where there are any.
 """
 import argparse
