@@ -6,6 +6,7 @@ pub mod Reductions
 pub mod CompleteLists
 pub mod Parts
 pub mod Residuals
+pub mod LinkMisses
 pub mod Bounds
 pub mod BrickSteps
 pub mod BrickMisses
