@@ -15,8 +15,8 @@ use Rattle.fold_theory.specs.Programs.{Program, Bricks, link_rests, phase_cost, 
 use Rattle.run_theory.specs.Steps.{moved, gain, AllowsEnd, IsCandidate, Augments, rule_cmp}
 use Rattle.run_theory.specs.Walks.{WalkCosts}
 use Rattle.lattice_laws.proofs.Tests.{true_or_false}
-use Rattle.layer_laws.proofs.BestWalks.{IsLeastWalk, IsBestWalk}
-use Rattle.layer_laws.proofs.Candidates.{walk_steps, step_walks, moved_nothing}
+use Rattle.walk_laws.proofs.BestWalks.{IsLeastWalk, IsBestWalk}
+use Rattle.walk_laws.proofs.Candidates.{walk_steps, step_walks, moved_nothing}
 
 same_length : (k : ℕ) → nat_cmp k k ≡ Equal
 same_length k = grind (arith, nat_tests)

@@ -14,8 +14,8 @@ use Rattle.lattice_theory.specs.Matrices.{product}
 use Rattle.lattice_laws.proofs.Conformal.{add_sub}
 use Rattle.fold_theory.specs.Programs.{Program, Brick, Bricks, IsWithin}
 use Rattle.run_theory.specs.Walks.{brick_change, end_cost, WalkCosts}
-use Rattle.layer_laws.proofs.Orders.{lex_cmp-sub, rising_places, first_decides, tails_decide}
-use Rattle.layer_laws.proofs.Walks.{there, Front, front_of, walk_of, walk_none}
+use Rattle.walk_laws.proofs.Orders.{lex_cmp-sub, rising_places, first_decides, tails_decide}
+use Rattle.walk_laws.proofs.Walks.{there, Front, front_of, walk_of, walk_none}
 
 -- a vector less w, after w
 sub_add : (w d : Vector) → length d ≡ length w → sub (add w d) w ≡ d

@@ -1,3 +1,0 @@
-//! Laws of walks through the layers, in `proofs/`, for the crates that prove with the words of `fold_theory`: least and
-//! best walks from one layer to the next, and which walks are candidate steps.
-#![tactic(auto)]
