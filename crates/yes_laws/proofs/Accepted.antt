@@ -40,7 +40,7 @@ record Rules (p : Program) (phase : Phase) (c : Certificate) (f : FoldPart) : Ty
   point : point_fits p phase c.point.rows ≡ true
   bricks : is_complete_for p.brick c.bricks.rows ≡ true
   links : is_complete_for (listed_links p c) f.links.rows ≡ true
-  light : complexity phase (listed_links p c) f.links.rows ≤ f.bound
+  light : complexity phase p.relations (listed_links p c) f.links.rows ≤ f.bound
   closed : sums_are_closed p.brick.cols (listed_generators p c) f.bound (listed_sums f) ≡ true
   layers : layers_hold p phase (vectors (listed_sums f)) (link_rests p c.point.rows) p.bricks c.point.rows
       f.potentials.rows ≡ true
@@ -66,7 +66,7 @@ rules_say p phase c f h =
       point = fits.1;
       bricks = pass.1.0;
       links = pass.1.1.0;
-      light = le_true (complexity phase (listed_links p c) f.links.rows) f.bound pass.1.1.1.0;
+      light = le_true (complexity phase p.relations (listed_links p c) f.links.rows) f.bound pass.1.1.1.0;
       closed = pass.1.1.1.1.0;
       layers = potentials.0;
       starts = potentials.1;
@@ -85,14 +85,14 @@ frame_of p phase c f rules =
     let each = complete_generators p.brick c.bricks.rows rules.bricks in
     let sized = gens_sized p.brick c.bricks.rows rules.bricks in
     record {
-      some = omega (arith, complexity_some phase m f.links.rows, rules.light);
+      some = omega (arith, complexity_some phase p.relations m f.links.rows, rules.light);
       sized = sized;
       nonzero = each_has (IsGenerator p.brick) (λ g. 0 < norm1 g) (λ g is. is.nonzero) gens each;
       still =
           each_has (IsGenerator p.brick) (λ g. product p.brick g ≡ zeros (length p.brick.rows)) (λ g is. is.still) gens
           each;
       writes = λ d size still. written_of p.brick c.bricks.rows rules.bricks d size still;
-      light = λ w size some tight. light_part phase m f.links.rows rules.links f.bound rules.light w size some tight;
+      light = λ w size some tight. light_part phase p.relations m f.links.rows rules.links f.bound rules.light w size some tight;
       listed = λ count low. combined_listed t gens f.bound (listed_sums f) rules.closed sized count low;
     }
 
@@ -178,6 +178,7 @@ module _ (p : Program) (phase : Phase) (c : Certificate) (f : FoldPart) (program
   held_of : IsHeld p phase p.brick.cols (vectors (listed_sums f)) c.point.rows
   held_of = record {
     right = program.right_size;
+    relations = program.relations_size;
     bricks = bricks_of p program;
     placed = placed_of p phase c.point.rows program rules.point;
     no_gain =

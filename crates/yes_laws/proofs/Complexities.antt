@@ -5,21 +5,23 @@ use Rattle.std.specs.List.{list_all, filter}
 use Rattle.std.proofs.lemmas.List.Elements.{All-contains}
 use Rattle.fold_theory.specs.declared.Phase.{Phase}
 use Rattle.fold_theory.specs.declared.Phase.TheVariants.{Closed, Counted}
+use Rattle.fold_theory.specs.declared.Relation.{Relation}
 use Rattle.lattice_theory.specs.Lists.{greatest}
 use Rattle.lattice_theory.specs.Vectors.{Vector, ◌⊑◌, is_zero, norm1, opposite}
 use Rattle.lattice_theory.specs.Matrices.{Matrix, product}
 use Rattle.lattice_theory.specs.Lattices.{is_complete_for, first_parts}
 use Rattle.lattice_laws.proofs.Members.{contains_cases, contains_head, contains_tail}
 use Rattle.lattice_laws.proofs.Tests.{not_both}
-use Rattle.lattice_laws.proofs.Conformal.{norm_some, norm_none, norm_of_zero, norm_below, norm-opposite, nonzero_of_norm}
+use Rattle.lattice_laws.proofs.Conformal.{norm_some, norm-opposite, nonzero_of_norm}
 use Rattle.lattice_laws.proofs.Products.{rows-opposite}
+use Rattle.fold_theory.specs.Programs.{keeps_equations}
 use Rattle.run_theory.specs.Links.{complexity, counts_in}
 use Rattle.fold_laws.specs.Elements.{IsNonzeroElement}
+use Rattle.fold_laws.proofs.LinkMisses.{equations_kept_below, equations_kept_turned}
 use Rattle.fold_laws.proofs.Parts.{part_of_complete}
 use Rattle.fold_laws.proofs.CompleteLists.{complete_elements}
 use Rattle.yes_laws.proofs.PieceCounts.{LightPart}
 use Rattle.yes_laws.proofs.OnePiece.{IsTight}
-use Rattle.yes_laws.proofs.Generators.{zero-opposite}
 
 -- a member that has a first part
 pub first_member : (n : ℕ) (basis : List Vector) (v : Vector) → Contains (first_parts n basis) v →
@@ -51,55 +53,60 @@ at_most_greatest f test (y ∷ basis) z c pass =
       | inr d ↦ further d
     ]
 
-zero_below : (u v : Vector) → u ⊑ v → is_zero v ≡ true → is_zero u ≡ true
-zero_below u v h none = norm_none u (omega (arith, norm_below u v h, norm_of_zero v none))
-
-pub complexity_some : (phase : Phase) (m : Matrix) (basis : List Vector) → 1 ≤ complexity phase m basis
-complexity_some phase m basis = omega (arith, least_some (list_all is_zero m.rows))
+pub complexity_some : (phase : Phase) (relations : List Relation) (m : Matrix) (basis : List Vector) →
+    1 ≤ complexity phase relations m basis
+complexity_some phase relations m basis = omega (arith, least_some (list_all is_zero m.rows))
   where
     least_some : (b : Bool) → 1 ≤ cond b 1 2
     least_some true = omega arith
     least_some false = omega arith
 
-module _ (phase : Phase) (m : Matrix) (basis : List Vector) (complete : is_complete_for m basis ≡ true) where
-  -- what the phase asks of the image of a first part, the member itself has
-  counts : (f : Phase) (z : Vector) → IsNonzeroElement m z → IsTight f (product m (take m.cols z)) →
-      counts_in f m.cols z ≡ true
-  counts Closed z is tight = ap is_zero is.member.image ∙ tight
-  counts Counted z is tight = refl
+-- what the phase asks of a change it asks of each part of it, and of the change with its signs turned
+pub tight_below : (phase : Phase) (relations : List Relation) (u v : Vector) → u ⊑ v → IsTight phase relations v →
+    IsTight phase relations u
+tight_below Closed relations u v below tight = equations_kept_below relations u v below tight
+tight_below Counted relations u v below tight = tt
 
-  tight_below : (f : Phase) (u v : Vector) → u ⊑ v → IsTight f v → IsTight f u
-  tight_below Closed u v h tight = zero_below u v h tight
-  tight_below Counted u v h tight = tt
+pub tight_turned : (phase : Phase) (relations : List Relation) (m : Matrix) (v : Vector) →
+    IsTight phase relations (product m v) → IsTight phase relations (product m (opposite v))
+tight_turned Closed relations m v tight =
+    ap (keeps_equations relations) (rows-opposite m.rows v) ∙ equations_kept_turned relations (product m v) tight
+tight_turned Counted relations m v tight = tt
 
-  tight_turned : (f : Phase) (v : Vector) → IsTight f (product m v) → IsTight f (product m (opposite v))
-  tight_turned Closed v tight = ap is_zero (rows-opposite m.rows v) ∙ zero-opposite (product m v) tight
-  tight_turned Counted v tight = tt
+-- what the phase asks of the image of a first part, the member itself has
+pub counts : (phase : Phase) (relations : List Relation) (m : Matrix) (z : Vector) → IsNonzeroElement m z →
+    IsTight phase relations (product m (take m.cols z)) → counts_in phase relations m.cols z ≡ true
+counts Closed relations m z is tight = ap (keeps_equations relations) is.member.image ∙ tight
+counts Counted relations m z is tight = refl
 
+module _ (phase : Phase) (relations : List Relation) (m : Matrix) (basis : List Vector)
+    (complete : is_complete_for m basis ≡ true) where
   -- a first part with such an image is no heavier than the complexity
-  first_light : (v : Vector) → Contains (first_parts m.cols basis) v → IsTight phase (product m v) →
-      norm1 v ≤ complexity phase m basis
+  first_light : (v : Vector) → Contains (first_parts m.cols basis) v → IsTight phase relations (product m v) →
+      norm1 v ≤ complexity phase relations m basis
   first_light v c tight =
       let r = first_member m.cols basis v c in
       let is = All-contains (IsNonzeroElement m) basis r.0 (complete_elements m basis complete) r.1 in
-      let pass = counts phase r.0 is (subst (λ u. IsTight phase (product m u)) (sym r.2) tight) in
+      let here = subst (λ u. IsTight phase relations (product m u)) (sym r.2) tight in
+      let pass = counts phase relations m r.0 is here in
       omega (
         arith,
-        at_most_greatest (λ z. norm1 (take m.cols z)) (counts_in phase m.cols) basis r.0 r.1 pass,
+        at_most_greatest (λ z. norm1 (take m.cols z)) (counts_in phase relations m.cols) basis r.0 r.1 pass,
         ap norm1 r.2,
       )
 
   part_light : (v : Vector) → Contains (first_parts m.cols basis) v ⊎ Contains (first_parts m.cols basis) (opposite v) →
-      IsTight phase (product m v) → norm1 v ≤ complexity phase m basis
+      IsTight phase relations (product m v) → norm1 v ≤ complexity phase relations m basis
   part_light v (inl c) tight = first_light v c tight
-  part_light v (inr c) tight = omega (arith, norm-opposite v, first_light (opposite v) c (tight_turned phase v tight))
+  part_light v (inr c) tight =
+      omega (arith, norm-opposite v, first_light (opposite v) c (tight_turned phase relations m v tight))
 
   -- a light part of a vector
-  pub light_part : (bound : ℕ) → complexity phase m basis ≤ bound → (w : Vector) → length w ≡ m.cols → 0 < norm1 w →
-      IsTight phase (product m w) → LightPart bound (λ q. product m q ⊑ product m w) w
+  pub light_part : (bound : ℕ) → complexity phase relations m basis ≤ bound → (w : Vector) → length w ≡ m.cols →
+      0 < norm1 w → IsTight phase relations (product m w) → LightPart bound (λ q. product m q ⊑ product m w) w
   light_part bound low w size some tight =
       let q = part_of_complete m basis complete w size (nonzero_of_norm w some) in
-      let here = tight_below phase (product m q.vector) (product m w) q.image tight in
+      let here = tight_below phase relations (product m q.vector) (product m w) q.image tight in
       record {
         vector = q.vector;
         below = q.below;

@@ -19,6 +19,7 @@ it_is_a_program right = record {
   link_shape = one_row (pos 1 ∷ pos 0 ∷ []) refl;
   brick_shape = one_row (pos 1 ∷ pos 1 ∷ []) refl;
   right_size = refl;
+  relations_size = refl;
   each_brick = All-from_recursion (IsBrick 2 1) (program_with right 4).bricks (one_brick 4, (one_brick 4, tt));
 }
 

@@ -7,15 +7,14 @@ use Rattle.std.specs.List.{AllZip, AllByRecursion}
 use Rattle.fold_theory.specs.declared.Phase.{Phase}
 use Rattle.fold_theory.specs.declared.Phase.TheVariants.{Closed, Counted}
 use Rattle.lattice_theory.specs.Lists.{sum_zip}
-use Rattle.lattice_theory.specs.Vectors.{Vector, norm1, add, sub, zeros}
+use Rattle.lattice_theory.specs.Vectors.{Vector, add, sub, zeros}
 use Rattle.lattice_theory.specs.Matrices.{product}
-use Rattle.lattice_laws.proofs.Conformal.{norm_none, sub-opposite, length-add}
-use Rattle.lattice_laws.proofs.Products.{length-rows, length-zeros}
+use Rattle.lattice_laws.proofs.Conformal.{sub-opposite, length-add}
+use Rattle.lattice_laws.proofs.Products.{length-zeros}
 use Rattle.fold_theory.specs.Programs.{Program, Brick, Bricks, IsBrick, AreWithin, MeetsBrickRows, brick_cost, link_rests, link_miss, phase_cost}
 use Rattle.run_theory.specs.Steps.{AllowsEnd, partial_sums}
 use Rattle.run_theory.specs.Walks.{brick_change, end_cost, walk_end}
-use Rattle.fold_laws.proofs.Agreement.{add_assoc_v, add_zeros, zeros_add, same_vector}
-use Rattle.fold_laws.proofs.BrickMisses.{no_rest}
+use Rattle.fold_laws.proofs.Agreement.{add_assoc_v, add_zeros, zeros_add}
 use Rattle.fold_laws.proofs.Bounds.{length-within}
 use Rattle.fold_laws.proofs.Residuals.{rows-sub}
 use Rattle.fold_laws.proofs.Terms.{sum_of, weight, opposite-zeros}
@@ -24,7 +23,7 @@ use Rattle.yes_laws.proofs.Layers.{UnitWalk}
 use Rattle.yes_laws.proofs.PieceCounts.{sub_itself}
 use Rattle.yes_laws.proofs.Combinations.{length-sum}
 use Rattle.yes_laws.proofs.PointParts.{AreParts, forth, back}
-use Rattle.yes_laws.proofs.Points.{way, ArePartsOf, forth-sized, back-sized, parts-sized, rests_are, miss_is, image-forth, image-back, miss_parts, are_parts, parts-length, parts_within, phase_parts, nearer, same_point}
+use Rattle.yes_laws.proofs.Points.{way, ArePartsOf, forth-sized, back-sized, parts-sized, rests_are, image-forth, miss_parts, way_kept, are_parts, parts-length, parts_within, phase_parts, nearer, same_point}
 use Rattle.yes_laws.proofs.OnePiece.{IsTight, Frame, OnePiece, one_piece}
 
 -- ---- differences
@@ -151,6 +150,7 @@ pub record IsPlaced (p : Program) (phase : Phase) (y : Bricks) : Type 0 where
 -- a point at which no walk lowers the phase cost
 pub record IsHeld (p : Program) (phase : Phase) (t : ℕ) (zs : List Vector) (x : Bricks) : Type 0 where
   pub right : length p.link_right ≡ length p.link.rows
+  pub relations : length p.relations ≡ length p.link.rows
   pub bricks : AllByRecursion (IsBrick t (length p.brick.rows)) p.bricks
   pub placed : IsPlaced p phase x
   pub no_gain : (h : Bricks) (c : ℤ) → UnitWalk p phase zs (link_rests p x) p.bricks x (zeros t) h c → pos 0 ≤ℤ c
@@ -168,25 +168,15 @@ module _ (p : Program) (phase : Phase) (t : ℕ) (zs : List Vector) (x : Bricks)
   same_length : (y : Bricks) → AreWithin p.bricks y → length y ≡ length x
   same_length y within = point-length p.bricks y within ∙ sym (point-length p.bricks x held.placed.within)
 
-  -- the image of a point that misses no linking row
-  image_right : (y : Bricks) → AreSized t y → link_miss p (link_rests p y) ≡ 0 → image y ≡ p.link_right
-  image_right y sy none =
-      same_vector (image y) p.link_right (length-rows p.link.rows (sum_of t y) ∙ sym held.right)
-      (norm_none (sub p.link_right (image y)) (omega (arith, miss_is t p y sy, none)))
-
   -- what the phase asks of the way
   way_tight : (y : Bricks) → AreWithin p.bricks y → AllowsEnd p phase x → AllowsEnd p phase y →
-      IsTight phase (image (way x y))
+      IsTight phase p.relations (image (way x y))
   way_tight y within ex ey = by phase ex ey
     where
-      by : (f : Phase) → AllowsEnd p f x → AllowsEnd p f y → IsTight f (image (way x y))
+      by : (f : Phase) → AllowsEnd p f x → AllowsEnd p f y → IsTight f p.relations (image (way x y))
       by Counted a b = tt
       by Closed a b =
-          let sy = sized y within in
-          let both : image (way x y) ≡ sub p.link_right p.link_right =
-          image-back t p y x sy sx (sym (same_length y within))
-          ∙ (λ i. sub (image_right y sy b i) (image_right x sx a i)) in
-          norm_none (image (way x y)) (omega (arith, ap norm1 both, no_rest p.link_right))
+          way_kept t p x y held.right held.relations sx (sized y within) (same_length y within) a b
 
   -- a move to a point within the bounds, by parts of the way
   record IsStep (y h : Bricks) : Type 0 where

@@ -5,11 +5,12 @@ use Rattle.std.proofs.lemmas.Bool.{cases_lt}
 use Rattle.std.specs.List.{AllZip, AllByRecursion}
 use Rattle.fold_theory.specs.declared.Phase.{Phase}
 use Rattle.fold_theory.specs.declared.Phase.TheVariants.{Closed, Counted}
-use Rattle.lattice_theory.specs.Vectors.{Vector, ◌⊑◌, is_zero, norm1, add, zeros}
+use Rattle.fold_theory.specs.declared.Relation.{Relation}
+use Rattle.lattice_theory.specs.Vectors.{Vector, ◌⊑◌, norm1, add, zeros}
 use Rattle.lattice_theory.specs.Matrices.{Matrix, product}
 use Rattle.lattice_laws.proofs.Conformal.{norm_none, length-add}
 use Rattle.lattice_laws.proofs.Products.{rows-zeros, length-rows, length-zeros, zeros_is}
-use Rattle.fold_theory.specs.Programs.{Program}
+use Rattle.fold_theory.specs.Programs.{Program, keeps_equations}
 use Rattle.run_theory.specs.Links.{link_matrix}
 use Rattle.run_theory.specs.Steps.{partial_sums}
 use Rattle.fold_laws.proofs.Terms.{sum_of, weight}
@@ -19,10 +20,10 @@ use Rattle.yes_laws.proofs.PieceCounts.{norm-zeros, zeros_below_sized, LightPart
 use Rattle.yes_laws.proofs.Combinations.{combined, combined-add, combined-zeros, combined-sum, product-combined, rows-combined, length-sum, IsWritten, Written, part_below, part_weighs}
 use Rattle.yes_laws.proofs.Points.{parts-sized}
 
--- what the phase asks of a change of the linking rows: none in the closed phase
-abbrev pub IsTight : Phase → Vector → Type 0
-IsTight Closed image = is_zero image ≡ true
-IsTight Counted image = Unit {0}
+-- what the phase asks of a change of the linking rows: in the closed phase no equation changes
+abbrev pub IsTight : Phase → List Relation → Vector → Type 0
+IsTight Closed relations image = keeps_equations relations image ≡ true
+IsTight Counted relations image = Unit {0}
 
 -- what the generators, the bound and the listed sums must have, for pieces to be found
 pub record Frame (p : Program) (phase : Phase) (t : ℕ) (gens zs : List Vector) (bound : ℕ) : Type 0 where
@@ -32,7 +33,7 @@ pub record Frame (p : Program) (phase : Phase) (t : ℕ) (gens zs : List Vector)
   pub still : AllByRecursion (λ g. product p.brick g ≡ zeros (length p.brick.rows)) gens
   pub writes : (d : Vector) → length d ≡ t → product p.brick d ≡ zeros (length p.brick.rows) → Written t gens d
   pub light : (w : Vector) → length w ≡ length gens → 0 < norm1 w →
-      IsTight phase (product (link_matrix p.link gens) w) →
+      IsTight phase p.relations (product (link_matrix p.link gens) w) →
       LightPart bound (λ q. product (link_matrix p.link gens) q ⊑ product (link_matrix p.link gens) w) w
   pub listed : (c : Vector) → norm1 c ≤ bound → Contains zs (combined t gens c)
 
@@ -160,8 +161,8 @@ module _ (p : Program) (phase : Phase) (t : ℕ) (gens zs : List Vector) (bound 
 
   -- ---- the piece
 
-  pub one_piece : (ds : List Vector) → AreSized t ds → IsStill ds → IsTight phase (product p.link (sum_of t ds)) →
-      0 < weight ds → OnePiece p t zs ds
+  pub one_piece : (ds : List Vector) → AreSized t ds → IsStill ds →
+      IsTight phase p.relations (product p.link (sum_of t ds)) → 0 < weight ds → OnePiece p t zs ds
   one_piece ds sized still tight some =
       let w = all_written ds sized still in
       let sizes = counts_sized w.counts ds w.each in
@@ -174,7 +175,7 @@ module _ (p : Program) (phase : Phase) (t : ℕ) (gens zs : List Vector) (bound 
       let piece =
       piece_counts n bound (λ q. product links q ⊑ product links whole) w.counts frame.some zero_has sizes
       (counts_some w.counts ds w.each some)
-      (λ more. frame.light whole (length-sum n w.counts sizes) more (subst (IsTight phase) (sym image) tight)) in
+      (λ more. frame.light whole (length-sum n w.counts sizes) more (subst (IsTight phase p.relations) (sym image) tight)) in
       let shares = piece.counts_of.shares in
       let parts = shares.parts in
       let small : AreSized n parts = parts-sized n parts w.counts shares.below sizes in

@@ -1,5 +1,5 @@
 -- Points of several bricks: their sums, what the linking rows miss at them, and two parts of the phase cost.
-use Rattle.std.proofs.Common.{◌≡◌, ℕ, suc, ◌+◌, ◌≤◌, ◌+ℤ◌, ◌-ℤ◌, ◌≤ℤ◌, List, [], ◌∷◌, length, map, refl, ap, arith, sym, ◌∙◌, subst}
+use Rattle.std.proofs.Common.{◌≡◌, ℕ, suc, ◌+◌, ◌≤◌, ◌+ℤ◌, ◌-ℤ◌, ◌≤ℤ◌, true, List, [], ◌∷◌, length, map, refl, ap, arith, sym, ◌∙◌, subst}
 use Rattle.std.proofs.lemmas.Int.{ints}
 use Rattle.std.specs.List.{AllZip, AllByRecursion}
 use Rattle.fold_theory.specs.declared.Phase.{Phase}
@@ -9,10 +9,11 @@ use Rattle.lattice_theory.specs.Vectors.{Vector, ◌⊑◌, norm1, add, sub, zer
 use Rattle.lattice_theory.specs.Matrices.{product}
 use Rattle.lattice_laws.proofs.Products.{dot-add, dot-zeros, rows-add, length-rows, length-zeros}
 use Rattle.lattice_laws.proofs.Conformal.{length_below, norm_split, norm_none, length-add}
-use Rattle.fold_theory.specs.Programs.{Program, Brick, Bricks, IsBrick, AreWithin, link_rests, link_miss, phase_cost}
+use Rattle.fold_theory.specs.Programs.{Program, Brick, Bricks, IsBrick, AreWithin, link_rests, link_miss, keeps_equations, phase_cost}
 use Rattle.fold_laws.proofs.Agreement.{add_zeros, length-sub, sub_swap, same_vector}
 use Rattle.fold_laws.proofs.Bounds.{within_parts}
-use Rattle.fold_laws.proofs.Residuals.{norm_parts, rows-sub}
+use Rattle.fold_laws.proofs.LinkMisses.{missed_parts, equations_kept}
+use Rattle.fold_laws.proofs.Residuals.{rows-sub}
 use Rattle.fold_laws.proofs.Terms.{sum_of, weight}
 use Rattle.fold_laws.proofs.Reductions.{AreSized}
 use Rattle.yes_laws.proofs.PieceCounts.{sub_itself}
@@ -102,8 +103,8 @@ module _ (t : ℕ) where
 
   -- the link miss by the sum of the point
   pub miss_is : (p : Program) (x : Bricks) → AreSized t x →
-      link_miss p (link_rests p x) ≡ norm1 (sub p.link_right (product p.link (sum_of t x)))
-  miss_is p x sized = ap norm1 (rests_are p x sized)
+      link_miss p (link_rests p x) ≡ link_miss p (sub p.link_right (product p.link (sum_of t x)))
+  miss_is p x sized = ap (link_miss p) (rests_are p x sized)
 
   -- the images of x + h and of y - h
   pub image-forth : (p : Program) (x h : Bricks) → AreSized t x → AreSized t h → length h ≡ length x →
@@ -131,16 +132,30 @@ module _ (t : ℕ) where
       omega (
         arith,
         miss_is p (forth x h) (forth-sized x h sx sh),
-        ap (λ v. norm1 (sub p.link_right v)) (image-forth p x h sx sh size),
+        ap (λ v. link_miss p (sub p.link_right v)) (image-forth p x h sx sh size),
         miss_is p (back y h) (back-sized y h sy sh),
-        ap (λ v. norm1 (sub p.link_right v)) (image-back p y h sy sh (size ∙ sym same)),
+        ap (λ v. link_miss p (sub p.link_right v)) (image-back p y h sy sh (size ∙ sym same)),
         miss_is p x sx,
         miss_is p y sy,
-        norm_parts p.link_right (image x) (image y) (image h) part (as_long x) (as_long y),
+        missed_parts p.relations p.link_right (image x) (image y) (image h) part (as_long x) (as_long y),
       )
     where
       as_long : (u : Bricks) → length (product p.link (sum_of t u)) ≡ length p.link_right
       as_long u = length-rows p.link.rows (sum_of t u) ∙ sym right
+
+  -- between two points that miss no linking row no equation changes
+  pub way_kept : (p : Program) (x y : Bricks) → length p.link_right ≡ length p.link.rows →
+      length p.relations ≡ length p.link.rows → AreSized t x → AreSized t y → length y ≡ length x →
+      link_miss p (link_rests p x) ≡ 0 → link_miss p (link_rests p y) ≡ 0 →
+      keeps_equations p.relations (product p.link (sum_of t (way x y))) ≡ true
+  way_kept p x y right relations sx sy same at_x at_y =
+      let image = λ (u : Bricks). product p.link (sum_of t u) in
+      ap (keeps_equations p.relations) (image-back p y x sy sx (sym same))
+      ∙ equations_kept p.relations p.link_right (image x) (image y) (right ∙ sym relations) (as_long x) (as_long y)
+      (sym (miss_is p x sx) ∙ at_x) (sym (miss_is p y sy) ∙ at_y)
+    where
+      as_long : (u : Bricks) → length (product p.link (sum_of t u)) ≡ length p.relations
+      as_long u = length-rows p.link.rows (sum_of t u) ∙ sym relations
 
 -- ---- two parts of the phase cost
 
