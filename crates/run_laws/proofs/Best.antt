@@ -25,6 +25,7 @@ finished_is_best p phase b sums x y program bases are start none other =
     held : IsHeld p phase p.brick.cols (vectors sums) x
     held = record {
       right = program.right_size;
+      relations = program.relations_size;
       bricks = bricks_of p program;
       placed = placed_of p phase x start;
       no_gain =

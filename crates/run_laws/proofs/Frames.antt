@@ -1,15 +1,14 @@
 -- The frame that pieces are found by, from slack bases and brick sums.
-use Rattle.std.proofs.Common.{◌≡◌, ◌<◌, ◌≤◌, true, List, [], ◌∷◌, length, take, refl, ap, arith, sym, ◌∙◌, Contains, inl, inr, subst}
+use Rattle.std.proofs.Common.{◌≡◌, ◌<◌, ◌≤◌, List, [], ◌∷◌, length, take, ap, arith, sym, Contains, inl, inr, subst}
 use Rattle.std.specs.List.{AllByRecursion}
 use Rattle.fold_theory.specs.declared.Phase.{Phase}
-use Rattle.fold_theory.specs.declared.Phase.TheVariants.{Closed, Counted}
-use Rattle.lattice_theory.specs.Vectors.{Vector, ◌⊑◌, is_zero, norm1, opposite, zeros}
+use Rattle.fold_theory.specs.declared.Relation.{Relation}
+use Rattle.lattice_theory.specs.Vectors.{Vector, ◌⊑◌, norm1, opposite, zeros}
 use Rattle.lattice_theory.specs.Matrices.{Matrix, product}
 use Rattle.lattice_theory.specs.Lattices.{IsSlackBasis, first_parts, kernel}
 use Rattle.lattice_theory.specs.SignedSums.{Sum, vectors}
 use Rattle.lattice_laws.proofs.Members.{contains_head, contains_tail}
-use Rattle.lattice_laws.proofs.Conformal.{norm_some, norm_none, norm_of_zero, norm_below, norm-opposite, nonzero_of_norm}
-use Rattle.lattice_laws.proofs.Products.{rows-opposite}
+use Rattle.lattice_laws.proofs.Conformal.{norm_some, norm-opposite, nonzero_of_norm}
 use Rattle.lattice_laws.proofs.SlackBases.{IsSigned}
 use Rattle.fold_theory.specs.Programs.{Program}
 use Rattle.run_theory.specs.Links.{Bases, AreBases, complexity, counts_in, generators, links_of, fold_complexity}
@@ -18,8 +17,8 @@ use Rattle.fold_laws.specs.Elements.{IsNonzeroElement}
 use Rattle.fold_laws.proofs.Reductions.{AreSized}
 use Rattle.yes_laws.proofs.PieceCounts.{LightPart}
 use Rattle.yes_laws.proofs.OnePiece.{IsTight, Frame}
-use Rattle.yes_laws.proofs.Generators.{IsGenerator, kernel_generators, each_has, zero-opposite}
-use Rattle.yes_laws.proofs.Complexities.{complexity_some, first_member, at_most_greatest}
+use Rattle.yes_laws.proofs.Generators.{IsGenerator, kernel_generators, each_has}
+use Rattle.yes_laws.proofs.Complexities.{complexity_some, first_member, at_most_greatest, tight_below, tight_turned, counts}
 use Rattle.run_laws.proofs.SlackParts.{slack_element, slack_part, still_written}
 use Rattle.run_laws.proofs.SignedLists.{combined_listed, IsQuiet, listed_quiet}
 
@@ -47,52 +46,40 @@ slack_still m basis slack =
     each_has (IsGenerator m) (λ g. product m g ≡ zeros (length m.rows)) (λ v g. g.still) (kernel m.cols basis)
     (slack_generators m basis slack)
 
--- ---- what the phase asks of an image
+-- ---- parts of count vectors
 
-tight_below : (phase : Phase) (u v : Vector) → u ⊑ v → IsTight phase v → IsTight phase u
-tight_below Closed u v h tight = norm_none u (omega (arith, norm_below u v h, norm_of_zero v tight))
-tight_below Counted u v h tight = tt
-
-tight_turned : (phase : Phase) (m : Matrix) (v : Vector) → IsTight phase (product m v) →
-    IsTight phase (product m (opposite v))
-tight_turned Closed m v tight = ap is_zero (rows-opposite m.rows v) ∙ zero-opposite (product m v) tight
-tight_turned Counted m v tight = tt
-
-module _ (phase : Phase) (m : Matrix) (basis : List Vector) (slack : IsSlackBasis m basis) where
-  -- a member counts where the image of its first part is as the phase wants it
-  counts : (f : Phase) (z : Vector) → IsNonzeroElement m z → IsTight f (product m (take m.cols z)) →
-      counts_in f m.cols z ≡ true
-  counts Closed z is tight = ap is_zero is.member.image ∙ tight
-  counts Counted z is tight = refl
-
-  first_light : (v : Vector) → Contains (first_parts m.cols basis) v → IsTight phase (product m v) →
-      norm1 v ≤ complexity phase m basis
+module _ (phase : Phase) (relations : List Relation) (m : Matrix) (basis : List Vector)
+    (slack : IsSlackBasis m basis) where
+  first_light : (v : Vector) → Contains (first_parts m.cols basis) v → IsTight phase relations (product m v) →
+      norm1 v ≤ complexity phase relations m basis
   first_light v c tight =
       let r = first_member m.cols basis v c in
-      let here = subst (λ u. IsTight phase (product m u)) (sym r.2) tight in
-      let pass = counts phase r.0 (slack_element m basis slack r.0 r.1) here in
+      let here = subst (λ u. IsTight phase relations (product m u)) (sym r.2) tight in
+      let pass = counts phase relations m r.0 (slack_element m basis slack r.0 r.1) here in
       omega (
         arith,
-        at_most_greatest (λ z. norm1 (take m.cols z)) (counts_in phase m.cols) basis r.0 r.1 pass,
+        at_most_greatest (λ z. norm1 (take m.cols z)) (counts_in phase relations m.cols) basis r.0 r.1 pass,
         ap norm1 r.2,
       )
 
-  part_light : (v : Vector) → IsSigned (first_parts m.cols basis) v → IsTight phase (product m v) →
-      norm1 v ≤ complexity phase m basis
+  part_light : (v : Vector) → IsSigned (first_parts m.cols basis) v → IsTight phase relations (product m v) →
+      norm1 v ≤ complexity phase relations m basis
   part_light v (inl c) tight = first_light v c tight
   part_light v (inr c) tight =
-      omega (arith, norm-opposite v, first_light (opposite v) c (tight_turned phase m v tight))
+      omega (arith, norm-opposite v, first_light (opposite v) c (tight_turned phase relations m v tight))
 
   -- a part no heavier than the complexity
-  slack_light : (w : Vector) → length w ≡ m.cols → 0 < norm1 w → IsTight phase (product m w) →
-      LightPart (complexity phase m basis) (λ q. product m q ⊑ product m w) w
+  slack_light : (w : Vector) → length w ≡ m.cols → 0 < norm1 w → IsTight phase relations (product m w) →
+      LightPart (complexity phase relations m basis) (λ q. product m q ⊑ product m w) w
   slack_light w size some tight =
       let q = slack_part m basis slack w size (nonzero_of_norm w some) in
       record {
         vector = q.vector;
         below = q.below;
         nonzero = norm_some q.vector q.nonzero;
-        light = part_light q.vector q.listed (tight_below phase (product m q.vector) (product m w) q.image tight);
+        light =
+            part_light q.vector q.listed
+            (tight_below phase relations (product m q.vector) (product m w) q.image tight);
         has = q.image;
       }
 
@@ -109,14 +96,15 @@ frame_of p phase b sums bases are =
     let gens = generators p b.brick in
     let sized = slack_sized p.brick b.brick bases.brick in
     record {
-      some = complexity_some phase (links_of p b.brick) b.links;
+      some = complexity_some phase p.relations (links_of p b.brick) b.links;
       sized = sized;
       nonzero =
           each_has (IsGenerator p.brick) (λ g. 0 < norm1 g) (λ g is. is.nonzero) gens
           (slack_generators p.brick b.brick bases.brick);
       still = slack_still p.brick b.brick bases.brick;
       writes = λ d size still. still_written p.brick b.brick bases.brick sized d size still;
-      light = λ w size some tight. slack_light phase (links_of p b.brick) b.links bases.links w size some tight;
+      light = λ w size some tight.
+          slack_light phase p.relations (links_of p b.brick) b.links bases.links w size some tight;
       listed = λ count low. combined_listed p.brick.cols gens (fold_complexity p phase b) sums are sized count low;
     }
 

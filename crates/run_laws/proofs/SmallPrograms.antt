@@ -37,7 +37,7 @@ abbrev the_brick : Brick
 the_brick = record { lower = pos 0 ∷ []; upper = pos 1 ∷ []; right = []; costs = square ∷ [] }
 
 abbrev the_program : Program
-the_program = record { link = no_row; link_right = []; brick = no_row; bricks = the_brick ∷ [] }
+the_program = record { link = no_row; link_right = []; relations = []; brick = no_row; bricks = the_brick ∷ [] }
 
 no_row_shape : HasShape 0 1 no_row
 no_row_shape = record {
@@ -51,6 +51,7 @@ it_is_a_program = record {
   link_shape = no_row_shape;
   brick_shape = no_row_shape;
   right_size = refl;
+  relations_size = refl;
   each_brick = All-from_recursion (IsBrick 1 0) (the_brick ∷ []) (is_brick, tt);
 }
   where
@@ -240,6 +241,7 @@ abbrev stuck_program : Program
 stuck_program = record {
   link = record { cols = 0; rows = [] };
   link_right = [];
+  relations = [];
   brick = empty_row;
   bricks = stuck_brick ∷ [];
 }
@@ -253,6 +255,7 @@ stuck_is_a_program = record {
     each_row = All-from_recursion (λ r. length r ≡ 0) ([] ∷ []) (refl, tt);
   };
   right_size = refl;
+  relations_size = refl;
   each_brick =
       All-from_recursion (IsBrick 0 1) (stuck_brick ∷ []) (
         record {
