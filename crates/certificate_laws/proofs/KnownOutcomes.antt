@@ -1,5 +1,6 @@
 -- The laws on outcomes at values worked by hand, with bounds that leave one vector alone: a brick with the row
--- v1 + v2 = 9 at (4, 4), which is stuck; and a brick with the row v = 4 at (4), where the linking row is met too.
+-- v1 + v2 = 9 at (4, 4), which is stuck; and a brick with the row v = 4 at (4), where the linking row, v at most 5, is
+-- met too.
 use Rattle.std.specs.Prelude.{◌≡◌, ℕ, suc, zero, ◌≤◌, ℤ, pos, ◌≤ℤ◌, List, [], ◌∷◌, length, Contains, Option, Some, None, slice_get, refl}
 use Rattle.std.proofs.Common.{arith, ap, sym, inl, inr, subst}
 use Rattle.std.proofs.lemmas.Int.{ints}
@@ -7,6 +8,7 @@ use Rattle.std.proofs.lemmas.List.Elements.{All-head, All-nil, All-from_recursio
 use Rattle.std.specs.List.{list_all}
 use Rattle.run_theory.specs.declared.Claim.TheVariants as claim
 use Rattle.fold_theory.specs.declared.Phase.TheVariants.{Closed}
+use Rattle.fold_theory.specs.declared.Relation.TheVariants.{Equal, Less}
 use Rattle.fold_theory.specs.declared.Verdict.TheVariants.{Optimal, InfeasibleBrick}
 use Rattle.lattice_theory.specs.Vectors.{Vector, is_zero}
 use Rattle.lattice_theory.specs.Matrices.{Matrix, HasShape}
@@ -44,6 +46,7 @@ abbrev the_program : Program
 the_program = record {
   link = record { cols = 2; rows = two (pos 1) (pos 0) ∷ [] };
   link_right = pos 3 ∷ [];
+  relations = Equal ∷ [];
   brick = pair;
   bricks = brick ∷ [];
 }
@@ -57,6 +60,7 @@ it_is_a_program = record {
   link_shape = one_row (two (pos 1) (pos 0)) refl;
   brick_shape = one_row row refl;
   right_size = refl;
+  relations_size = refl;
   each_brick = All-from_recursion (IsBrick 2 1) the_program.bricks (
     record {
       lower_size = refl;
@@ -148,7 +152,13 @@ abbrev small_brick : Brick
 small_brick = record { lower = pos 4 ∷ []; upper = pos 4 ∷ []; right = pos 4 ∷ []; costs = square ∷ [] }
 
 abbrev small_program : Program
-small_program = record { link = one; link_right = pos 4 ∷ []; brick = one; bricks = small_brick ∷ [] }
+small_program = record {
+  link = one;
+  link_right = pos 5 ∷ [];
+  relations = Less ∷ [];
+  brick = one;
+  bricks = small_brick ∷ [];
+}
 
 one_shape : HasShape 1 1 one
 one_shape = record {
@@ -162,6 +172,7 @@ small_is_a_program = record {
   link_shape = one_shape;
   brick_shape = one_shape;
   right_size = refl;
+  relations_size = refl;
   each_brick = All-from_recursion (IsBrick 1 1) small_program.bricks (
     record {
       lower_size = refl;
