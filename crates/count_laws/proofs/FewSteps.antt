@@ -101,6 +101,7 @@ module _ (p : Program) (phase : Phase) (b : Bases) (sums : List Sum) (program : 
       let most = unsigned_abs (gain p phase x m.k m.bricks) in
       let is : IsAt p phase p.brick.cols x = record {
         right = program.right_size;
+        relations = program.relations_size;
         bricks = bricks_of p program;
         placed = record { within = start.within; meets = start.brick_rows; ends = start.end };
       } in

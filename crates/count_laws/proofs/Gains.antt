@@ -6,19 +6,17 @@ use Rattle.std.proofs.lemmas.List.Elements.{All-from_recursion}
 use Rattle.std.specs.List.{All, AllByRecursion, list_all}
 use Rattle.fold_theory.specs.declared.Phase.{Phase}
 use Rattle.fold_theory.specs.declared.Phase.TheVariants.{Closed, Counted}
-use Rattle.lattice_theory.specs.Vectors.{Vector, ◌⊑◌, is_zero, norm1, add, sub, scale, zeros}
+use Rattle.lattice_theory.specs.Vectors.{Vector, ◌⊑◌, is_zero, add, sub, scale, zeros}
 use Rattle.lattice_theory.specs.Matrices.{product}
 use Rattle.lattice_laws.proofs.Tests.{true_or_false, and_true}
-use Rattle.lattice_laws.proofs.Conformal.{norm_none, norm_of_zero}
+use Rattle.lattice_laws.proofs.Conformal.{norm_of_zero}
 use Rattle.lattice_laws.proofs.Products.{length-rows}
 use Rattle.fold_theory.specs.Programs.{Program, Bricks, IsBrick, AreWithin, link_rests, link_miss, phase_cost}
 use Rattle.run_theory.specs.Steps.{partial_sums, AllowsEnd, IsCandidate, Augments, gain}
-use Rattle.fold_laws.proofs.Agreement.{same_vector}
-use Rattle.fold_laws.proofs.BrickMisses.{no_rest}
 use Rattle.fold_laws.proofs.Terms.{sum_of, weight}
 use Rattle.fold_laws.proofs.Reductions.{AreSized}
 use Rattle.yes_laws.proofs.PointParts.{AreParts, forth, back}
-use Rattle.yes_laws.proofs.Points.{way, ArePartsOf, back-sized, forth-sized, parts-sized, miss_is, image-forth, image-back, miss_parts, are_parts, parts-length, parts_within, phase_parts}
+use Rattle.yes_laws.proofs.Points.{way, ArePartsOf, back-sized, forth-sized, parts-sized, image-forth, image-back, miss_parts, way_kept, are_parts, parts-length, parts_within, phase_parts}
 use Rattle.yes_laws.proofs.OnePiece.{IsTight, OnePiece}
 use Rattle.yes_laws.proofs.Least.{IsPlaced, points_sized, point-length, back_meets}
 use Rattle.count_laws.proofs.Half.{Concave, half}
@@ -42,6 +40,7 @@ nonzero_move h some = elim (true_or_false (list_all is_zero h)) [
 -- a point of the program where the phase wants it
 pub record IsAt (p : Program) (phase : Phase) (t : ℕ) (x : Bricks) : Type 0 where
   pub right : length p.link_right ≡ length p.link.rows
+  pub relations : length p.relations ≡ length p.link.rows
   pub bricks : AllByRecursion (IsBrick t (length p.brick.rows)) p.bricks
   pub placed : IsPlaced p phase x
 
@@ -61,24 +60,14 @@ module _ (p : Program) (phase : Phase) (t : ℕ) (x : Bricks) (is : IsAt p phase
   length-image : (u : Bricks) → length (image u) ≡ length p.link.rows
   length-image u = length-rows p.link.rows (sum_of t u)
 
-  -- the image of a point that misses no linking row
-  image_right : (y : Bricks) → AreSized t y → link_miss p (link_rests p y) ≡ 0 → image y ≡ p.link_right
-  image_right y sy none =
-      same_vector (image y) p.link_right (length-image y ∙ sym is.right)
-      (norm_none (sub p.link_right (image y)) (omega (arith, miss_is t p y sy, none)))
-
   -- what the phase asks of the way
-  pub way_tight : (y : Bricks) → IsPlaced p phase y → IsTight phase (image (way x y))
+  pub way_tight : (y : Bricks) → IsPlaced p phase y → IsTight phase p.relations (image (way x y))
   way_tight y placed = by phase is.placed.ends placed.ends
     where
-      by : (f : Phase) → AllowsEnd p f x → AllowsEnd p f y → IsTight f (image (way x y))
+      by : (f : Phase) → AllowsEnd p f x → AllowsEnd p f y → IsTight f p.relations (image (way x y))
       by Counted a b = tt
       by Closed a b =
-          let sy = sized y placed.within in
-          let both : image (way x y) ≡ sub p.link_right p.link_right =
-          image-back t p y x sy sx (sym (same_length y placed.within))
-          ∙ (λ i. sub (image_right y sy b i) (image_right x sx a i)) in
-          norm_none (image (way x y)) (omega (arith, ap norm1 both, no_rest p.link_right))
+          way_kept t p x y is.right is.relations sx (sized y placed.within) (same_length y placed.within) a b
 
   -- ---- a part of the way
 

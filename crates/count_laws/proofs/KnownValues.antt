@@ -59,6 +59,7 @@ it_is_a_program = record {
   link_shape = one_row (pos 1 ∷ pos 0 ∷ []) refl;
   brick_shape = one_row (pos 1 ∷ pos 1 ∷ []) refl;
   right_size = refl;
+  relations_size = refl;
   each_brick = All-from_recursion (IsBrick 2 1) the_program.bricks (one_brick 4, (one_brick 4, tt));
 }
 
