@@ -1,3 +1,4 @@
+pub mod Counts
 pub mod Reading
 pub mod Places
 pub mod KnownValues

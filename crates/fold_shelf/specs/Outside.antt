@@ -17,6 +17,17 @@ abbrev pub file_named : List File → List ℕ → Option (List ℕ)
 file_named [] name = None
 file_named (f ∷ files) name = cond (bytes_eq f.name name) (Some f.bytes) (file_named files name)
 
+-- what contracts see of a folder: its files, where they are told, and how often a read and a write has failed
+pub record Folder : Type 0 where
+  pub files : Option (List File)
+  pub read_faults : ℕ
+  pub write_faults : ℕ
+
+-- what contracts see of what takes bytes: those taken so far, where they are told, and how often a write has failed
+pub record Stream : Type 0 where
+  pub taken : Option (List ℕ)
+  pub faults : ℕ
+
 -- no file has this name
 abbrev pub Lacks : List File → List ℕ → Type 0
 Lacks files name = file_named files name ≡ None
@@ -33,6 +44,29 @@ without files name = filter (λ f. not (bytes_eq f.name name)) files
 -- a count of faults has risen in this call, or stands at its last value
 abbrev pub Rose : ℕ → ℕ → Type 0
 Rose before now = min (before + 1) (2 ^ 64 - 1) ≤ now
+
+-- a read of the folder has failed in this call
+abbrev pub ReadFailed : Folder → Folder → Type 0
+ReadFailed before now = Rose before.read_faults now.read_faults
+
+-- a write to the folder has failed in this call
+abbrev pub WriteFailed : Folder → Folder → Type 0
+WriteFailed before now = Rose before.write_faults now.write_faults
+
+-- a write to the stream has failed in this call
+abbrev pub SinkFailed : Stream → Stream → Type 0
+SinkFailed before now = Rose before.faults now.faults
+
+-- a call that reads changes no file and no count but that of reads, which does not fall
+pub record OnlyReads (before now : Folder) : Type 0 where
+  pub files : now.files ≡ before.files
+  pub later : before.read_faults ≤ now.read_faults
+  pub writes : now.write_faults ≡ before.write_faults
+
+-- a call that writes changes no count but that of writes, which does not fall
+pub record OnlyWrites (before now : Folder) : Type 0 where
+  pub reads : now.read_faults ≡ before.read_faults
+  pub later : before.write_faults ≤ now.write_faults
 
 -- a fact of what is told
 abbrev pub ForTold : {A : Type 0} → Option A → (A → Type 0) → Type 0
@@ -72,25 +106,25 @@ pub record ReadFrom (files : List File) (name : List ℕ) (at : ℕ) (buffer : L
   pub front : take n buffer ≡ take n (drop at bytes)
   pub some : n ≡ 0 → (length buffer ≡ 0) ⊎ (length bytes ≤ at)
 
--- the told files lack the name, or the count rose
-abbrev pub IsMissing : Option (List File) → List ℕ → ℕ → ℕ → Type 0
-IsMissing files name before now = IsTold files (λ fs. Lacks fs name) ⊎ Rose before now
+-- the told files lack the name, or the shelf has failed so
+abbrev pub IsMissing : Option (List File) → List ℕ → Type 0 → Type 0
+IsMissing files name Fails = IsTold files (λ fs. Lacks fs name) ⊎ Fails
 
--- why a shelf's call is refused; want of memory may come at any time
-abbrev pub IsShelfCause : Option (List File) → List ℕ → ℕ → ℕ → ShelfFault → Type 0
-IsShelfCause files name before now shelf.Missing = IsMissing files name before now
-IsShelfCause files name before now shelf.Failed = Rose before now
-IsShelfCause files name before now shelf.Memory = Unit {0}
+-- why a shelf's call is refused, which fails so; want of memory may come at any time
+abbrev pub IsShelfCause : Option (List File) → List ℕ → Type 0 → ShelfFault → Type 0
+IsShelfCause files name Fails shelf.Missing = IsMissing files name Fails
+IsShelfCause files name Fails shelf.Failed = Fails
+IsShelfCause files name Fails shelf.Memory = Unit {0}
 
 -- why a file is not created or stored, which never finds a name missing; want of memory may come at any time
-abbrev pub IsCreateCause : ℕ → ℕ → ShelfFault → Type 0
+abbrev pub IsCreateCause : Folder → Folder → ShelfFault → Type 0
 IsCreateCause before now shelf.Missing = ⊥
-IsCreateCause before now shelf.Failed = Rose before now
+IsCreateCause before now shelf.Failed = WriteFailed before now
 IsCreateCause before now shelf.Memory = Unit {0}
 
 -- why a sink's call is refused; want of memory may come at any time
-abbrev pub IsSinkCause : ℕ → ℕ → SinkFault → Type 0
-IsSinkCause before now sink.Failed = Rose before now
+abbrev pub IsSinkCause : Stream → Stream → SinkFault → Type 0
+IsSinkCause before now sink.Failed = SinkFailed before now
 IsSinkCause before now sink.Memory = Unit {0}
 
 -- n bytes of the piece were taken: at most all, and at least one where there is one
@@ -122,8 +156,8 @@ load_fault shelf.Failed = loading.Failed
 load_fault shelf.Memory = loading.Memory
 
 -- why a file is not loaded; want of memory may come at any time
-abbrev pub IsLoadCause : Option (List File) → List ℕ → ℕ → ℕ → ℕ → LoadFault → Type 0
-IsLoadCause files name most before now loading.Missing = IsMissing files name before now
-IsLoadCause files name most before now loading.Failed = Rose before now
-IsLoadCause files name most before now loading.TooLong = ForTold files (IsTooLong name most)
-IsLoadCause files name most before now loading.Memory = Unit {0}
+abbrev pub IsLoadCause : Folder → Folder → List ℕ → ℕ → LoadFault → Type 0
+IsLoadCause before now name most loading.Missing = IsMissing before.files name (ReadFailed before now)
+IsLoadCause before now name most loading.Failed = ReadFailed before now
+IsLoadCause before now name most loading.TooLong = ForTold before.files (IsTooLong name most)
+IsLoadCause before now name most loading.Memory = Unit {0}

@@ -20,9 +20,7 @@ pub struct FolderShelf<'a, F: Files> {
 impl<'a, F: Files> FolderShelf<'a, F> {
     /// The folder, at which nothing has failed yet.
     pub fn new(files: &'a F) -> FolderShelf<'a, F>
-        ensures files { ⟦<FolderShelf<'a, F> as Shelf>⟧.files result ≡ None }
-        ensures reads { ⟦<FolderShelf<'a, F> as Shelf>⟧.read_faults result ≡ 0 }
-        ensures writes { ⟦<FolderShelf<'a, F> as Shelf>⟧.write_faults result ≡ 0 }
+        ensures { ⟦<FolderShelf<'a, F> as Shelf>⟧.seen result ≡ record { files = None; read_faults = 0; write_faults = 0 } }
     {
         FolderShelf {
             files,
@@ -36,11 +34,7 @@ impl<'a, F: Files> FolderShelf<'a, F> {
 impl<'a, F: Files> Shelf for FolderShelf<'a, F> {
     ghost use Rattle.std.specs.Prelude.{None};
 
-    ghost files = { λ _. None };
-
-    ghost read_faults = { λ s. s.read_faults };
-
-    ghost write_faults = { λ s. s.write_faults };
+    ghost seen = { λ s. record { files = None; read_faults = s.read_faults; write_faults = s.write_faults } };
 
     fn read_at(&mut self, name: &str, at: u64, buf: &mut [u8]) -> Result<usize, ShelfFault> {
         match read_once(self.files, name, at, buf) {
@@ -142,5 +136,60 @@ fn write_on<T: Write>(
     match created {
         Some(last) if last.is_named(name) => last.file.write(piece),
         _ => Err(io::Error::from(ErrorKind::InvalidInput)),
+    }
+}
+
+#[cfg(test)]
+mod tests {
+    use super::*;
+    use crate::{load, store};
+    use std::test::Fail;
+
+    #[test]
+    fn the_real_folder_keeps_what_is_stored_last(rt: HostRuntime) -> Result<(), Fail> {
+        let name = "folder_shelf_stored.test";
+        let mut shelf = FolderShelf::new(&rt);
+        store(&mut shelf, name, b"a longer text, which is stored over")?;
+        store(&mut shelf, name, b"a text")?;
+        let bytes = load(rt.alloc(), &mut shelf, name, 100)?;
+        fs::remove_file(&rt, name)?;
+        assert_eq!(rt; bytes.as_slice(), b"a text".as_slice());
+        Ok(())
+    }
+
+    #[test]
+    fn only_the_file_created_last_grows(rt: HostRuntime) -> Result<(), Fail> {
+        let (first, last) = ("folder_shelf_first.test", "folder_shelf_last.test");
+        let mut shelf = FolderShelf::new(&rt);
+        let failed = Err(ShelfFault::Failed);
+        assert_eq!(rt;
+            shelf.append(first, b"abc"),
+            failed,
+            "nothing was created yet"
+        );
+        shelf.create(first)?;
+        shelf.create(last)?;
+        assert_eq!(rt; shelf.append(first, b"abc"), failed);
+        assert_eq!(rt; shelf.append(last, b"abc"), Ok(3));
+        let bytes = load(rt.alloc(), &mut shelf, first, 100)?;
+        fs::remove_file(&rt, first)?;
+        fs::remove_file(&rt, last)?;
+        assert!(rt; bytes.is_empty());
+        Ok(())
+    }
+
+    #[test]
+    fn a_name_of_256_bytes_is_the_longest(rt: HostRuntime) -> Result<(), Fail> {
+        let mut name = String::new(rt.alloc());
+        for _ in 0..122 {
+            name.push_str("./")?;
+        }
+        name.push_str("shelf_a.test")?;
+        let mut shelf = FolderShelf::new(&rt);
+        shelf.create(&name)?;
+        fs::remove_file(&rt, "shelf_a.test")?;
+        name.push_str("s")?;
+        assert_eq!(rt; shelf.create(&name), Err(ShelfFault::Failed));
+        Ok(())
     }
 }

@@ -1,7 +1,7 @@
 //! Reading a whole file.
 
 ghost use Rattle.std.specs.Prelude.{◌≡◌, ◌≤◌, ◌<◌, IfOk, IfErr, length};
-ghost use Rattle.fold_shelf.specs.Outside.{ForTold, IsWhole, IsLoadCause};
+ghost use Rattle.fold_shelf.specs.Outside.{ForTold, OnlyReads, IsWhole, IsLoadCause};
 
 use crate::shelf::{PIECE, Shelf, ShelfFault};
 use std::alloc::{AllocError, Global};
@@ -56,12 +56,10 @@ pub fn load<S: Shelf>(
     name: &str,
     most: u64,
 ) -> Result<Vec<u8>, LoadFault>
-    ensures whole { IfOk result (λ b. ForTold (S.files shelf.old) (IsWhole name.now most b.items)) }
+    ensures whole { IfOk result (λ b. ForTold (S.seen shelf.old).files (IsWhole name.now most b.items)) }
     ensures short { IfOk result (λ b. length b.items ≤ most) }
-    ensures cause { IfErr result (IsLoadCause (S.files shelf.old) name.now most (S.read_faults shelf.old) (S.read_faults shelf.new)) }
-    ensures later { S.read_faults shelf.old ≤ S.read_faults shelf.new }
-    ensures files { S.files shelf.new ≡ S.files shelf.old }
-    ensures writes { S.write_faults shelf.new ≡ S.write_faults shelf.old }
+    ensures cause { IfErr result (IsLoadCause (S.seen shelf.old) (S.seen shelf.new) name.now most) }
+    ensures reads { OnlyReads (S.seen shelf.old) (S.seen shelf.new) }
 {
     let mut piece = zeros(alloc, PIECE)?;
     load_by(alloc, shelf, name, most, &mut piece)
@@ -83,12 +81,10 @@ fn load_by<S: Shelf>(
     piece: &mut [u8],
 ) -> Result<Vec<u8>, LoadFault>
     requires { 0 < length piece.old }
-    ensures whole { IfOk result (λ b. ForTold (S.files shelf.old) (IsWhole name.now most b.items)) }
+    ensures whole { IfOk result (λ b. ForTold (S.seen shelf.old).files (IsWhole name.now most b.items)) }
     ensures short { IfOk result (λ b. length b.items ≤ most) }
-    ensures cause { IfErr result (IsLoadCause (S.files shelf.old) name.now most (S.read_faults shelf.old) (S.read_faults shelf.new)) }
-    ensures later { S.read_faults shelf.old ≤ S.read_faults shelf.new }
-    ensures files { S.files shelf.new ≡ S.files shelf.old }
-    ensures writes { S.write_faults shelf.new ≡ S.write_faults shelf.old }
+    ensures cause { IfErr result (IsLoadCause (S.seen shelf.old) (S.seen shelf.new) name.now most) }
+    ensures reads { OnlyReads (S.seen shelf.old) (S.seen shelf.new) }
 {
     let mut bytes = Vec::new(alloc);
     loop {

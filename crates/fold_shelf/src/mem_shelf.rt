@@ -24,9 +24,7 @@ impl MemShelf {
     pub fn new(alloc: Global, files: Vec<MemFile>, fail: Vec<u64>, most: usize) -> MemShelf
         requires names { IsTrue (names_differ files.items) }
         requires most { 1 ≤ most }
-        ensures files { ⟦<MemShelf as Shelf>⟧.files result ≡ Some files.items }
-        ensures reads { ⟦<MemShelf as Shelf>⟧.read_faults result ≡ 0 }
-        ensures writes { ⟦<MemShelf as Shelf>⟧.write_faults result ≡ 0 }
+        ensures { ⟦<MemShelf as Shelf>⟧.seen result ≡ record { files = Some files.items; read_faults = 0; write_faults = 0 } }
     {
         MemShelf {
             alloc,
@@ -39,8 +37,8 @@ impl MemShelf {
 
     /// The bytes of the named file; `None` exactly where there is none.
     pub fn file(&self, name: &str) -> Option<&[u8]>
-        ensures there { IfSome result (λ bytes. IsTold (⟦<MemShelf as Shelf>⟧.files self.now) (λ fs. file_named fs name.now ≡ Some bytes.now)) }
-        ensures absent { IfNone result (IsTold (⟦<MemShelf as Shelf>⟧.files self.now) (λ fs. Lacks fs name.now)) }
+        ensures there { IfSome result (λ bytes. IsTold (⟦<MemShelf as Shelf>⟧.seen self.now).files (λ fs. file_named fs name.now ≡ Some bytes.now)) }
+        ensures absent { IfNone result (IsTold (⟦<MemShelf as Shelf>⟧.seen self.now).files (λ fs. Lacks fs name.now)) }
     {
         self.folder.get(name)
     }
@@ -49,11 +47,7 @@ impl MemShelf {
 impl Shelf for MemShelf {
     ghost use Rattle.std.specs.Prelude.{Some};
 
-    ghost files = { λ s. Some s.folder };
-
-    ghost read_faults = { λ s. s.read_faults };
-
-    ghost write_faults = { λ s. s.write_faults };
+    ghost seen = { λ s. record { files = Some s.folder; read_faults = s.read_faults; write_faults = s.write_faults } };
 
     fn read_at(&mut self, name: &str, at: u64, buf: &mut [u8]) -> Result<usize, ShelfFault> {
         if self.schedule.next_fails() {
@@ -82,5 +76,28 @@ impl Shelf for MemShelf {
         let count = self.schedule.moved(piece.len());
         self.folder.append(name, &piece[..count])?;
         Ok(count)
+    }
+}
+
+#[cfg(test)]
+mod tests {
+    use super::*;
+    use std::test::Fail;
+
+    #[test]
+    fn one_call_moves_at_most_so_many_bytes(rt: HostRuntime) -> Result<(), Fail> {
+        let alloc = rt.alloc();
+        let name = b"plan".to_vec(alloc)?;
+        let bytes = b"abcdef".to_vec(alloc)?;
+        let files = vec![in alloc; MemFile { name, bytes }]?;
+        assert!(rt; MemFile::names_differ(&files));
+        let mut shelf = MemShelf::new(alloc, files, Vec::new(alloc), 2);
+        let mut buf = [0; 8];
+        assert_eq!(rt; shelf.read_at("plan", 1, &mut buf), Ok(2));
+        assert_eq!(rt; buf, *b"bc\0\0\0\0\0\0");
+        shelf.create("cert")?;
+        assert_eq!(rt; shelf.append("cert", b"xyz"), Ok(2));
+        assert_eq!(rt; shelf.file("cert"), Some(b"xy".as_slice()));
+        Ok(())
     }
 }

@@ -19,8 +19,7 @@ impl MemSink {
     /// A sink that has taken nothing yet. Nothing is allocated.
     pub fn new(alloc: Global, fail: Vec<u64>, most: usize) -> MemSink
         requires { 1 ≤ most }
-        ensures taken { ⟦<MemSink as Sink>⟧.taken result ≡ Some [] }
-        ensures faults { ⟦<MemSink as Sink>⟧.faults result ≡ 0 }
+        ensures { ⟦<MemSink as Sink>⟧.seen result ≡ record { taken = Some []; faults = 0 } }
     {
         MemSink {
             bytes: Vec::new(alloc),
@@ -31,7 +30,7 @@ impl MemSink {
 
     /// The bytes taken so far.
     pub fn bytes(&self) -> &[u8]
-        ensures { ⟦<MemSink as Sink>⟧.taken self.now ≡ Some result.now }
+        ensures { (⟦<MemSink as Sink>⟧.seen self.now).taken ≡ Some result.now }
     {
         &self.bytes
     }
@@ -40,9 +39,7 @@ impl MemSink {
 impl Sink for MemSink {
     ghost use Rattle.std.specs.Prelude.{Some};
 
-    ghost taken = { λ s. Some s.bytes.items };
-
-    ghost faults = { λ s. s.faults };
+    ghost seen = { λ s. record { taken = Some s.bytes.items; faults = s.faults } };
 
     fn write(&mut self, piece: &[u8]) -> Result<usize, SinkFault> {
         if self.schedule.next_fails() {
@@ -52,5 +49,23 @@ impl Sink for MemSink {
         let count = self.schedule.moved(piece.len());
         self.bytes.extend_from_slice(&piece[..count])?;
         Ok(count)
+    }
+}
+
+#[cfg(test)]
+mod tests {
+    use super::*;
+    use std::test::Fail;
+
+    #[test]
+    fn each_write_of_the_list_fails(rt: HostRuntime) -> Result<(), Fail> {
+        let alloc = rt.alloc();
+        let mut sink = MemSink::new(alloc, [1, 3].to_vec(alloc)?, 2);
+        let failed = Err(SinkFault::Failed);
+        for (piece, took) in [(b"abc", failed), (b"def", Ok(2)), (b"ghi", failed)] {
+            assert_eq!(rt; sink.write(piece), took);
+        }
+        assert_eq!(rt; sink.bytes(), b"de".as_slice());
+        Ok(())
     }
 }

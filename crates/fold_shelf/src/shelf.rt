@@ -1,7 +1,7 @@
 //! A folder of named files.
 
-ghost use Rattle.std.specs.Prelude.{ℕ, List, [], Option, ◌≡◌, ◌≤◌, IfOk, IfErr, OnOk, OnErr, length, take};
-ghost use Rattle.fold_shelf.specs.Outside.{File, ForTold, ForBoth, ReadFrom, FileHolds, FileGains, TakesSome, IsShelfCause, IsCreateCause};
+ghost use Rattle.std.specs.Prelude.{[], ◌≡◌, ◌≤◌, IfOk, IfErr, OnOk, OnErr, length, take};
+ghost use Rattle.fold_shelf.specs.Outside.{Folder, ForTold, ForBoth, ReadFailed, WriteFailed, OnlyReads, OnlyWrites, ReadFrom, FileHolds, FileGains, TakesSome, IsShelfCause, IsCreateCause};
 
 use std::alloc::AllocError;
 
@@ -33,41 +33,32 @@ impl From<AllocError> for ShelfFault {
 /// A folder of named files. A call that fails has raised the count of its kind, which never falls; the files are
 /// then as before.
 pub trait Shelf {
-    /// The files, where the shelf tells them. No call changes whether it does.
-    ghost files: { Self → Option (List File) };
-
-    /// How often a read has failed.
-    ghost read_faults: { Self → ℕ };
-
-    /// How often a write has failed.
-    ghost write_faults: { Self → ℕ };
+    /// The files, where the shelf tells them, and how often a read and a write has failed. No call changes whether
+    /// the files are told.
+    ghost seen: { Self → Folder };
 
     /// Reads bytes of the named file, from byte `at` on (counted from 0), to the front of `buf`, and says how
     /// many. It gives 0 only at or past the file's end, or where `buf` is empty. After a fault nothing is said of
     /// `buf`.
     fn read_at(&mut self, name: &str, at: u64, buf: &mut [u8]) -> Result<usize, ShelfFault>
         ensures most { IfOk result (λ n. n ≤ length buf.new) }
-        ensures bytes { IfOk result (λ n. ForTold (files self.old) (λ fs. ReadFrom fs name.now at buf.new n)) }
-        ensures cause { IfErr result (IsShelfCause (files self.old) name.now (read_faults self.old) (read_faults self.new)) }
-        ensures later { read_faults self.old ≤ read_faults self.new }
-        ensures files { files self.new ≡ files self.old }
-        ensures writes { write_faults self.new ≡ write_faults self.old };
+        ensures bytes { IfOk result (λ n. ForTold (seen self.old).files (λ fs. ReadFrom fs name.now at buf.new n)) }
+        ensures cause { IfErr result (IsShelfCause (seen self.old).files name.now (ReadFailed (seen self.old) (seen self.new))) }
+        ensures reads { OnlyReads (seen self.old) (seen self.new) };
 
     /// Makes the named file empty, whether it was there or not. It never answers `Missing`.
     fn create(&mut self, name: &str) -> Result<(), ShelfFault>
-        ensures made { OnOk result (ForBoth (files self.old) (files self.new) (FileHolds name.now [])) }
-        ensures kept { OnErr result (files self.new ≡ files self.old) }
-        ensures cause { IfErr result (IsCreateCause (write_faults self.old) (write_faults self.new)) }
-        ensures later { write_faults self.old ≤ write_faults self.new }
-        ensures reads { read_faults self.new ≡ read_faults self.old };
+        ensures made { OnOk result (ForBoth (seen self.old).files (seen self.new).files (FileHolds name.now [])) }
+        ensures kept { OnErr result ((seen self.new).files ≡ (seen self.old).files) }
+        ensures cause { IfErr result (IsCreateCause (seen self.old) (seen self.new)) }
+        ensures writes { OnlyWrites (seen self.old) (seen self.new) };
 
     /// Adds the first bytes of `piece` at the end of the named file and says how many: at least one where it is
     /// not empty.
     fn append(&mut self, name: &str, piece: &[u8]) -> Result<usize, ShelfFault>
         ensures some { IfOk result (TakesSome piece.now) }
-        ensures added { IfOk result (λ n. ForBoth (files self.old) (files self.new) (FileGains name.now (take n piece.now))) }
-        ensures kept { OnErr result (files self.new ≡ files self.old) }
-        ensures cause { IfErr result (IsShelfCause (files self.old) name.now (write_faults self.old) (write_faults self.new)) }
-        ensures later { write_faults self.old ≤ write_faults self.new }
-        ensures reads { read_faults self.new ≡ read_faults self.old };
+        ensures added { IfOk result (λ n. ForBoth (seen self.old).files (seen self.new).files (FileGains name.now (take n piece.now))) }
+        ensures kept { OnErr result ((seen self.new).files ≡ (seen self.old).files) }
+        ensures cause { IfErr result (IsShelfCause (seen self.old).files name.now (WriteFailed (seen self.old) (seen self.new))) }
+        ensures writes { OnlyWrites (seen self.old) (seen self.new) };
 }

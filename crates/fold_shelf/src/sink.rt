@@ -1,7 +1,7 @@
 //! What takes bytes, and how a whole text is given to it.
 
-ghost use Rattle.std.specs.Prelude.{ℕ, List, Option, ◌≡◌, ◌≤◌, IfOk, IfErr, OnOk, OnErr, take};
-ghost use Rattle.fold_shelf.specs.Outside.{ForBoth, TakesSome, Took, TookPart, IsSinkCause};
+ghost use Rattle.std.specs.Prelude.{◌≡◌, ◌≤◌, IfOk, IfErr, OnOk, OnErr, take};
+ghost use Rattle.fold_shelf.specs.Outside.{Stream, ForBoth, TakesSome, Took, TookPart, IsSinkCause};
 
 use std::alloc::AllocError;
 
@@ -28,27 +28,25 @@ impl From<AllocError> for SinkFault {
 /// What takes bytes. A write that fails has raised the count of faults, which never falls; the bytes taken are
 /// then as before.
 pub trait Sink {
-    /// The bytes taken so far, where the sink tells them. No call changes whether it does.
-    ghost taken: { Self → Option (List ℕ) };
-
-    /// How often a write has failed.
-    ghost faults: { Self → ℕ };
+    /// The bytes taken so far, where the sink tells them, and how often a write has failed. No call changes whether
+    /// the bytes are told.
+    ghost seen: { Self → Stream };
 
     /// Takes the first bytes of `piece` and says how many: at least one where it is not empty.
     fn write(&mut self, piece: &[u8]) -> Result<usize, SinkFault>
         ensures some { IfOk result (TakesSome piece.now) }
-        ensures took { IfOk result (λ n. ForBoth (taken self.old) (taken self.new) (Took (take n piece.now))) }
-        ensures kept { OnErr result (taken self.new ≡ taken self.old) }
-        ensures cause { IfErr result (IsSinkCause (faults self.old) (faults self.new)) }
-        ensures later { faults self.old ≤ faults self.new };
+        ensures took { IfOk result (λ n. ForBoth (seen self.old).taken (seen self.new).taken (Took (take n piece.now))) }
+        ensures kept { OnErr result ((seen self.new).taken ≡ (seen self.old).taken) }
+        ensures cause { IfErr result (IsSinkCause (seen self.old) (seen self.new)) }
+        ensures later { (seen self.old).faults ≤ (seen self.new).faults };
 }
 
 /// Gives all of `bytes` to the sink. After a fault it has taken a first part of them.
 pub fn put<K: Sink>(sink: &mut K, bytes: &[u8]) -> Result<(), SinkFault>
-    ensures took { OnOk result (ForBoth (K.taken sink.old) (K.taken sink.new) (Took bytes.now)) }
-    ensures part { OnErr result (ForBoth (K.taken sink.old) (K.taken sink.new) (TookPart bytes.now)) }
-    ensures cause { IfErr result (IsSinkCause (K.faults sink.old) (K.faults sink.new)) }
-    ensures later { K.faults sink.old ≤ K.faults sink.new }
+    ensures took { OnOk result (ForBoth (K.seen sink.old).taken (K.seen sink.new).taken (Took bytes.now)) }
+    ensures part { OnErr result (ForBoth (K.seen sink.old).taken (K.seen sink.new).taken (TookPart bytes.now)) }
+    ensures cause { IfErr result (IsSinkCause (K.seen sink.old) (K.seen sink.new)) }
+    ensures later { (K.seen sink.old).faults ≤ (K.seen sink.new).faults }
 {
     let mut rest = bytes;
     while !rest.is_empty() {

@@ -18,7 +18,7 @@ impl SteadyShelf {
     /// A folder of these files. Nothing is allocated.
     pub fn new(alloc: Global, files: Vec<MemFile>) -> SteadyShelf
         requires { IsTrue (names_differ files.items) }
-        ensures { ⟦<SteadyShelf as Shelf>⟧.files result ≡ Some files.items }
+        ensures { ⟦<SteadyShelf as Shelf>⟧.seen result ≡ record { files = Some files.items; read_faults = 0; write_faults = 0 } }
     {
         SteadyShelf {
             alloc,
@@ -30,11 +30,7 @@ impl SteadyShelf {
 impl Shelf for SteadyShelf {
     ghost use Rattle.std.specs.Prelude.{Some};
 
-    ghost files = { λ s. Some s.folder };
-
-    ghost read_faults = { λ _. 0 };
-
-    ghost write_faults = { λ _. 0 };
+    ghost seen = { λ s. record { files = Some s.folder; read_faults = 0; write_faults = 0 } };
 
     fn read_at(&mut self, name: &str, at: u64, buf: &mut [u8]) -> Result<usize, ShelfFault> {
         self.folder

@@ -14,7 +14,7 @@ pub struct SteadySink {
 impl SteadySink {
     /// A sink that has taken nothing yet. Nothing is allocated.
     pub fn new(alloc: Global) -> SteadySink
-        ensures { ⟦<SteadySink as Sink>⟧.taken result ≡ Some [] }
+        ensures { ⟦<SteadySink as Sink>⟧.seen result ≡ record { taken = Some []; faults = 0 } }
     {
         SteadySink {
             bytes: Vec::new(alloc),
@@ -23,7 +23,7 @@ impl SteadySink {
 
     /// The bytes taken so far.
     pub fn bytes(&self) -> &[u8]
-        ensures { ⟦<SteadySink as Sink>⟧.taken self.now ≡ Some result.now }
+        ensures { (⟦<SteadySink as Sink>⟧.seen self.now).taken ≡ Some result.now }
     {
         &self.bytes
     }
@@ -32,9 +32,7 @@ impl SteadySink {
 impl Sink for SteadySink {
     ghost use Rattle.std.specs.Prelude.{Some};
 
-    ghost taken = { λ s. Some s.bytes.items };
-
-    ghost faults = { λ _. 0 };
+    ghost seen = { λ s. record { taken = Some s.bytes.items; faults = 0 } };
 
     fn write(&mut self, piece: &[u8]) -> Result<usize, SinkFault> {
         self.bytes.extend_from_slice(piece)?;

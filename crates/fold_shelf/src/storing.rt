@@ -1,7 +1,7 @@
 //! Writing a whole file.
 
-ghost use Rattle.std.specs.Prelude.{◌≡◌, ◌≤◌, IfErr, OnOk, OnErr};
-ghost use Rattle.fold_shelf.specs.Outside.{ForBoth, FileHolds, StoredPart, IsCreateCause};
+ghost use Rattle.std.specs.Prelude.{IfErr, OnOk, OnErr};
+ghost use Rattle.fold_shelf.specs.Outside.{ForBoth, OnlyWrites, FileHolds, StoredPart, IsCreateCause};
 
 use crate::shelf::{PIECE, Shelf, ShelfFault};
 
@@ -9,11 +9,10 @@ use crate::shelf::{PIECE, Shelf, ShelfFault};
 /// fault it is as before, or holds a first part of them. It never answers `Missing`: a name that goes missing on
 /// the way is a failure of the shelf.
 pub fn store<S: Shelf>(shelf: &mut S, name: &str, bytes: &[u8]) -> Result<(), ShelfFault>
-    ensures stored { OnOk result (ForBoth (S.files shelf.old) (S.files shelf.new) (FileHolds name.now bytes.now)) }
-    ensures part { OnErr result (ForBoth (S.files shelf.old) (S.files shelf.new) (StoredPart name.now bytes.now)) }
-    ensures cause { IfErr result (IsCreateCause (S.write_faults shelf.old) (S.write_faults shelf.new)) }
-    ensures later { S.write_faults shelf.old ≤ S.write_faults shelf.new }
-    ensures reads { S.read_faults shelf.new ≡ S.read_faults shelf.old }
+    ensures stored { OnOk result (ForBoth (S.seen shelf.old).files (S.seen shelf.new).files (FileHolds name.now bytes.now)) }
+    ensures part { OnErr result (ForBoth (S.seen shelf.old).files (S.seen shelf.new).files (StoredPart name.now bytes.now)) }
+    ensures cause { IfErr result (IsCreateCause (S.seen shelf.old) (S.seen shelf.new)) }
+    ensures writes { OnlyWrites (S.seen shelf.old) (S.seen shelf.new) }
 {
     shelf.create(name)?;
     let mut rest = bytes;
@@ -57,6 +56,18 @@ mod tests {
         let mut shelf = MemShelf::new(alloc, Vec::new(alloc), fail, 16);
         assert_eq!(rt; store(&mut shelf, "cert", TEXT), Err(ShelfFault::Failed));
         assert_eq!(rt; shelf.file("cert"), Some(b"a text that take".as_slice()));
+        Ok(())
+    }
+
+    // Call 1 creates the file, and call 2 adds the first piece.
+    #[test]
+    fn a_piece_has_at_most_65536_bytes(rt: HostRuntime) -> Result<(), Fail> {
+        let alloc = rt.alloc();
+        let text = vec![in alloc; 7; 65_537]?;
+        let mut shelf = MemShelf::new(alloc, Vec::new(alloc), [3].to_vec(alloc)?, usize::MAX);
+        let stored = store(&mut shelf, "cert", &text);
+        assert_eq!(rt; stored, Err(ShelfFault::Failed));
+        assert_eq!(rt; shelf.file("cert").map(|bytes| bytes.len()), Some(65_536));
         Ok(())
     }
 

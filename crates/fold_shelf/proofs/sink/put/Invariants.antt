@@ -8,8 +8,8 @@ TookUpTo text rest before now = (part : List ℕ) × (text ≡ part ++ rest) × 
 
 abbrev pub invariant-loop-rest : goal.invariant-loop-rest
 invariant-loop-rest g l = record {
-  taken : ForBoth (g.K.Sink.taken l.fn.sink) (g.K.Sink.taken l.sink) (TookUpTo l.bytes l.rest);
-  later : g.K.Sink.faults l.fn.sink ≤ g.K.Sink.faults l.sink;
+  taken : ForBoth (g.K.Sink.seen l.fn.sink).taken (g.K.Sink.seen l.sink).taken (TookUpTo l.bytes l.rest);
+  later : (g.K.Sink.seen l.fn.sink).faults ≤ (g.K.Sink.seen l.sink).faults;
 }
 
 abbrev pub decreases-loop-rest : goal.decreases-loop-rest

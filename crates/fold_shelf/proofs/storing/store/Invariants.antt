@@ -1,5 +1,5 @@
-use Rattle.std.proofs.Common.{◌≡◌, ℕ, ◌≤◌, List, ◌++◌, length}
-use Rattle.fold_shelf.specs.Outside.{File, ForBoth, FileHolds}
+use Rattle.std.proofs.Common.{◌≡◌, ℕ, List, ◌++◌, length}
+use Rattle.fold_shelf.specs.Outside.{File, ForBoth, OnlyWrites, FileHolds}
 use Rattle.fold_shelf.proofs.storing.store.Given as goal
 
 -- the named file holds all of the text but this rest
@@ -8,9 +8,8 @@ HoldsUpTo name text rest before now = (part : List ℕ) × (text ≡ part ++ res
 
 abbrev pub invariant-loop-rest : goal.invariant-loop-rest
 invariant-loop-rest g l = record {
-  held : ForBoth (g.S.Shelf.files l.fn.shelf) (g.S.Shelf.files l.shelf) (HoldsUpTo l.name l.bytes l.rest);
-  later : g.S.Shelf.write_faults l.fn.shelf ≤ g.S.Shelf.write_faults l.shelf;
-  reads : g.S.Shelf.read_faults l.shelf ≡ g.S.Shelf.read_faults l.fn.shelf;
+  held : ForBoth (g.S.Shelf.seen l.fn.shelf).files (g.S.Shelf.seen l.shelf).files (HoldsUpTo l.name l.bytes l.rest);
+  writes : OnlyWrites (g.S.Shelf.seen l.fn.shelf) (g.S.Shelf.seen l.shelf);
 }
 
 abbrev pub decreases-loop-rest : goal.decreases-loop-rest
