@@ -1,0 +1,8 @@
+pub mod Tests
+pub mod Units
+pub mod Clashes
+pub mod Reductions
+pub mod Settled
+pub mod Cuts
+pub mod Prefixes
+mod KnownValues
