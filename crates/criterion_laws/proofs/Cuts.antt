@@ -18,7 +18,7 @@ use Rattle.lattice_laws.proofs.UnitVectors.{without_rows, length-unit, first_uni
 use Rattle.lattice_laws.proofs.Completion.{counts, CoversCut, Settles, pairs_reduce, completed}
 use Rattle.fold_laws.specs.Elements.{IsNonzeroElement}
 use Rattle.fold_laws.proofs.CompleteLists.{list_all_at}
-use Rattle.criterion_laws.specs.Prefixes.{is_below_in, clash_settles, clashes_settle}
+use Rattle.criterion_laws.specs.Prefixes.{is_below_in, clash_settles, pair_settles, clashes_settle}
 use Rattle.criterion_laws.proofs.Tests.{list_any_gives, nat_lt_true, or_cases}
 use Rattle.criterion_laws.proofs.Units.{units_have}
 use Rattle.criterion_laws.proofs.Clashes.{counts_clash}
@@ -119,10 +119,10 @@ module _ (m : Matrix) (row : Vector) (at : ℕ) (size : width m ≡ at) (basis :
       ]
 
   -- so each two places are settled
-  pair_settles : (bound : ℕ) (f g : Vector) →
-      (clash_settles m.cols basis f g && clash_settles m.cols basis f (opposite g)) ≡ true →
+  two_settle : (bound : ℕ) (f g : Vector) →
+      pair_settles m.cols basis f g ≡ true →
       Settles at bound cuts (take (suc at) f) (take (suc at) g)
-  pair_settles bound f g both q sign counted light =
+  two_settle bound f g both q sign counted light =
       let parts = and_true (clash_settles m.cols basis f g) (clash_settles m.cols basis f (opposite g)) both in
       elim sign [
         | inl same ↦ by g (sym same) parts.0
@@ -140,13 +140,12 @@ module _ (m : Matrix) (row : Vector) (at : ℕ) (size : width m ≡ at) (basis :
       AllPairs (Settles at bound cuts) (map (take (suc at)) fs)
   pairs_settle bound [] settled = λ i j d before low. absurd (omega arith)
   pairs_settle bound (f ∷ fs) settled =
-      let test = λ (g : Vector). clash_settles m.cols basis f g && clash_settles m.cols basis f (opposite g) in
-      let parts = and_true (list_all test fs) (clashes_settle m.cols basis fs) settled in
+      let parts = and_true (list_all (pair_settles m.cols basis f) fs) (clashes_settle m.cols basis fs) settled in
       AllPairs-cons (Settles at bound cuts) (take (suc at) f) (map (take (suc at)) fs)
       (all_members (Settles at bound cuts (take (suc at) f)) (map (take (suc at)) fs) (λ v c.
       let r = mapped_member (take (suc at)) fs v c in
       subst (Settles at bound cuts (take (suc at) f)) r.2
-      (pair_settles bound f r.0 (list_all_at test fs r.0 parts.0 r.1))))
+      (two_settle bound f r.0 (list_all_at (pair_settles m.cols basis f) fs r.0 parts.0 r.1))))
       (pairs_settle bound fs parts.1)
 
   -- where the members cut before the row's entry cover, and each is an element after it, those with it cover

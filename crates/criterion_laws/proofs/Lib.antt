@@ -1,6 +1,7 @@
 pub mod Tests
 pub mod Units
 pub mod Clashes
+pub mod Turned
 pub mod Reductions
 pub mod Settled
 pub mod Cuts

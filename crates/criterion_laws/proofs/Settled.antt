@@ -10,7 +10,7 @@ use Rattle.lattice_laws.proofs.Conformal.{below_same, conforms-take, leads-appen
 use Rattle.lattice_laws.proofs.Elements.{element_in, known_by_first, closed_add, first_nonzero}
 use Rattle.lattice_laws.proofs.SlackBases.{IsSigned}
 use Rattle.lattice_laws.proofs.UnitVectors.{length-unit}
-use Rattle.criterion_laws.specs.Prefixes.{first_clash, is_below_in, clash_settles, clashes_settle}
+use Rattle.criterion_laws.specs.Prefixes.{first_clash, is_below_in, clash_settles, pair_settles, clashes_settle}
 use Rattle.criterion_laws.proofs.Tests.{and_of, nat_lt_of, or_left, or_right, list_all_of, list_any_of}
 use Rattle.criterion_laws.proofs.Clashes.{clash_agrees, agree-take}
 use Rattle.criterion_laws.proofs.Reductions.{IsCovering, signed_in, signed_some}
@@ -97,10 +97,9 @@ module _ (m : Matrix) (basis : List Vector) (is : IsCovering m basis) where
       clashes_settle m.cols basis fs ≡ true
   clashes_within [] inside = refl
   clashes_within (f ∷ fs) inside =
-      let test = λ (g : Vector). clash_settles m.cols basis f g && clash_settles m.cols basis f (opposite g) in
       let here = inside f (contains_head f fs) in
-      and_of (list_all test fs) (clashes_settle m.cols basis fs)
-      (list_all_of test fs (λ g c.
+      and_of (list_all (pair_settles m.cols basis f) fs) (clashes_settle m.cols basis fs)
+      (list_all_of (pair_settles m.cols basis f) fs (λ g c.
       let there = inside g (contains_tail f fs g c) in
       and_of (clash_settles m.cols basis f g) (clash_settles m.cols basis f (opposite g))
       (signed_settles f g (inl here) (inl there))

@@ -27,12 +27,14 @@ clash_settles cols basis f g =
       | Some at ↦ nat_lt at cols || list_any (is_below_in (suc at) (add f g)) basis
     ]
 
--- so for each two members, the second one with either sign
+-- so with either sign of the second one
+abbrev pub pair_settles : ℕ → List Vector → Vector → Vector → Bool
+pair_settles cols basis f g = clash_settles cols basis f g && clash_settles cols basis f (opposite g)
+
+-- so each two members
 abbrev pub clashes_settle : ℕ → List Vector → List Vector → Bool
 clashes_settle cols basis [] = true
-clashes_settle cols basis (f ∷ fs) =
-    list_all (λ g. clash_settles cols basis f g && clash_settles cols basis f (opposite g)) fs
-    && clashes_settle cols basis fs
+clashes_settle cols basis (f ∷ fs) = list_all (pair_settles cols basis f) fs && clashes_settle cols basis fs
 
 -- the criterion by prefixes: the list is rising, each member is an element that leads positive, the elements of the
 -- unit vectors are members, and what two members clash in is settled by a prefix
