@@ -1,5 +1,5 @@
 -- The best step of one length, the gains of all lengths, and the rule's step as it is recorded.
-use Rattle.std.specs.Prelude.{◌≡◌, ◌<◌, ◌⊎◌, ◌↔◌, ℕ, List, length, Option, Some, None, IsTrue, slice_get}
+use Rattle.std.specs.Prelude.{◌≡◌, ◌≢◌, ◌<◌, ◌⊎◌, ◌↔◌, ℕ, List, length, Option, Some, None, IsTrue, slice_get}
 use Rattle.std.specs.Ordering.{is_le}
 use Rattle.fold_theory.specs.declared.Phase.{Phase}
 use Rattle.run_theory.specs.declared.Key.{Key}
@@ -8,7 +8,7 @@ use Rattle.lattice_theory.specs.SignedSums.{vectors}
 use Rattle.fold_theory.specs.Programs.{Program, Bricks, IsLength}
 use Rattle.run_theory.specs.Steps.{Move, Augments, NoneAugments, IsBest, IsGain, rule_cmp}
 use Rattle.run_theory.specs.Outcomes.{Step, step_at}
-use Rattle.run_theory.specs.Keys.{beaten}
+use Rattle.run_theory.specs.Keys.{beats, beaten}
 use Rattle.run_theory.specs.Folds.{FoldValue}
 
 -- the best step of its length: no other of that length comes before it
@@ -40,3 +40,11 @@ IsRuleStep f x (Some s) =
 pub record AreGains (p : Program) (phase : Phase) (zs : List Vector) (x : Bricks) (gains : List (Option ℕ)) : Type 0 where
   pub lengths : (k : ℕ) → (k < length gains) ↔ IsLength p k
   pub each : (k : ℕ) (g : Option ℕ) → slice_get gains k ≡ Some g → IsGain p phase zs x k g
+
+-- the length whose key beats that of every other length that gains; none where no length gains
+abbrev pub IsBestByGains : List (Option ℕ) → Option ℕ → Type 0
+IsBestByGains gains None = (k g : ℕ) → slice_get gains k ≡ Some (Some g) → ⊥
+IsBestByGains gains (Some k) =
+    (g : ℕ) × (slice_get gains k ≡ Some (Some g))
+    × ((j h : ℕ) → j ≢ k → slice_get gains j ≡ Some (Some h) →
+    IsTrue (beats (record { gain = g; k = k }) (record { gain = h; k = j })))
