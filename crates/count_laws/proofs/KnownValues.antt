@@ -17,6 +17,7 @@ use Rattle.fold_theory.proofs.KnownValues.{brick_with, the_program, point_of, be
 use Rattle.fold_laws.proofs.KnownValues.{one_brick, one_row}
 use Rattle.run_theory.specs.Starts.{IsStart}
 use Rattle.run_theory.specs.Digits.{binary_digits}
+use Rattle.run_laws.proofs.SmallPrograms as small
 use Rattle.count_laws.proofs.FewSteps.{few_steps}
 
 -- ---- binary digits
@@ -93,3 +94,16 @@ at_most_sixty b sums moves same bases are run =
       few_steps the_program Closed b sums the_start best_point moves it_is_a_program bases are it_is_a_start run,
       whole,
     )
+
+-- ---- a run of one step, by which a linking row that is no equation changes
+
+-- one brick of one column and one linking row, where no entry is past 2: 2 * 2 * 2
+pub its_factor : bound_number small.the_program (vectors small.the_sums) ≡ 8
+its_factor = refl
+
+-- all premises of the law are met: 8 * 1
+pub at_most_eight : length (small.the_move ∷ []) ≤ 8
+at_most_eight =
+    few_steps small.the_program Closed small.the_bases small.the_sums (small.at (pos 0)) (small.at (pos 1))
+    (small.the_move ∷ []) small.it_is_a_program small.they_are_bases small.they_are_sums
+    (small.is_start (pos 0) (omega (arith, ints)) (omega (arith, ints))) small.its_run

@@ -8,4 +8,4 @@ pub mod Stuck
 pub mod PhaseRuns
 pub mod TrueOutcomes
 mod KnownValues
-mod SmallPrograms
+pub mod SmallPrograms
