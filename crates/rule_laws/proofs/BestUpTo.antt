@@ -1,12 +1,12 @@
 -- The best step of the first lengths: none at first, then one more length at a time, and at the end the rule's step.
-use Rattle.std.proofs.Common.{◌≡◌, ◌≢◌, ℕ, ◌+◌, ◌<◌, ◌≤◌, ◌↔◌, ◌≤ℤ◌, ◌<ℤ◌, false, Option, Some, None, IsTrue, refl, ap, sym, ◌∙◌, subst, arith, ◌⊎◌, inl, inr}
+use Rattle.std.proofs.Common.{◌≡◌, ◌≢◌, ℕ, ◌+◌, ◌<◌, ◌≤◌, ◌↔◌, ◌≤ℤ◌, ◌<ℤ◌, false, Option, Some, None, IsTrue, sym, subst, arith, inl, inr}
 use Rattle.std.proofs.lemmas.Int.{ints}
 use Rattle.std.proofs.lemmas.Bool.{cases_order}
 use Rattle.run_theory.specs.declared.Key.{Key}
 use Rattle.lattice_theory.specs.SignedSums.{vectors}
 use Rattle.fold_theory.specs.Programs.{Bricks, IsLength}
-use Rattle.run_theory.specs.Steps.{Move, IsBest, IsGain}
-use Rattle.run_theory.specs.Outcomes.{Step, step_at}
+use Rattle.run_theory.specs.Steps.{Move, IsBest}
+use Rattle.run_theory.specs.Outcomes.{Step}
 use Rattle.run_theory.specs.Keys.{beats, beaten}
 use Rattle.run_theory.specs.Folds.{FoldValue}
 use Rattle.run_theory.specs.Bests.{IsBestOfLength, IsFound, NoneOfLength, IsBeaten, IsRuleStep}
@@ -101,7 +101,8 @@ module _ (f : FoldValue) (x : Bricks) where
           omega (arith, ints, low, more, worth_after f x m.k m.bricks kept.augments, worth_after f x n h best.augments)
 
   -- the first step that is found
-  begins_below : (n : ℕ) (h : Bricks) → IsBestUpTo f x n None → IsBestOfLength f x n h → IsBestBelow f x (n + 1) (move f x n h)
+  begins_below : (n : ℕ) (h : Bricks) → IsBestUpTo f x n None → IsBestOfLength f x n h →
+      IsBestBelow f x (n + 1) (move f x n h)
   begins_below n h none best = record {
     augments = best.augments;
     short = omega arith;

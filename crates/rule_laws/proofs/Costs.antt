@@ -1,5 +1,5 @@
 -- What the keys of steps say of the costs after them, and so of the order of the rule.
-use Rattle.std.proofs.Common.{◌≡◌, ℕ, ◌<◌, ◌≤◌, ℤ, pos, ◌-ℤ◌, ◌≤ℤ◌, ◌<ℤ◌, unsigned_abs, Bool, true, false, nat_eq, nat_lt, ◌&&◌, ◌||◌, IsTrue, refl, ap, ◌∙◌, arith, ◌⊎◌, inl, inr, int_lt}
+use Rattle.std.proofs.Common.{◌≡◌, ℕ, ◌<◌, ◌≤◌, ℤ, pos, ◌-ℤ◌, ◌≤ℤ◌, ◌<ℤ◌, unsigned_abs, Bool, true, false, nat_eq, nat_lt, ◌&&◌, ◌||◌, IsTrue, refl, ap, ◌∙◌, arith, ◌⊎◌, inl, inr}
 use Rattle.std.proofs.lemmas.Int.{ints}
 use Rattle.std.proofs.lemmas.Bool.Decides.{nat_tests}
 use Rattle.std.specs.Ordering.{int_cmp, nat_cmp, ordering_then, is_le}
@@ -7,7 +7,7 @@ use Rattle.std.specs.Cmp.Lexicographic.{slice_cmp}
 use Rattle.std.specs.declared.cmp.Ordering.{Ordering}
 use Rattle.std.specs.declared.cmp.Ordering.TheVariants.{Less, Equal, Greater}
 use Rattle.run_theory.specs.declared.Key.{Key}
-use Rattle.lattice_theory.specs.Vectors.{Vector, lex_cmp}
+use Rattle.lattice_theory.specs.Vectors.{lex_cmp}
 use Rattle.lattice_theory.specs.SignedSums.{vectors}
 use Rattle.fold_theory.specs.Programs.{Bricks, phase_cost}
 use Rattle.run_theory.specs.Steps.{Move, moved, gain, Augments, rule_cmp}

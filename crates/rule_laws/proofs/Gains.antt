@@ -1,5 +1,5 @@
 -- Where the gains of all lengths are known, the best step of the length that is best by gains is the rule's.
-use Rattle.std.proofs.Common.{◌≡◌, ◌≢◌, ℕ, ◌<◌, ◌≤◌, pos, List, length, get_or, Option, Some, None, IsTrue, slice_get, subst, sym, arith}
+use Rattle.std.proofs.Common.{◌≡◌, ◌≢◌, ℕ, ◌<◌, ◌≤◌, List, length, get_or, Option, Some, None, IsTrue, slice_get, subst, sym, arith}
 use Rattle.std.proofs.lemmas.Int.{ints}
 use Rattle.std.proofs.lemmas.Option.{slice_get-get_or}
 use Rattle.lattice_theory.specs.SignedSums.{vectors}
@@ -55,6 +55,7 @@ module _ (f : FoldValue) (x : Bricks) (gains : List (Option ℕ))
       others : (j : ℕ) → j ≢ k → BeatsLength f x (record { gain = worth f x k h; k = k }) j
       others j apart i a =
           let r = has_gain j i a in
-          let wins = subst (λ n. IsTrue (beats (record { gain = n; k = k }) (record { gain = r.gain; k = j }))) (sym own)
+          let wins =
+          subst (λ n. IsTrue (beats (record { gain = n; k = k }) (record { gain = r.gain; k = j }))) (sym own)
           (beating j r.gain apart r.there) in
           beats_lesser (record { gain = worth f x k h; k = k }) r.gain (worth f x j i) j r.most wins

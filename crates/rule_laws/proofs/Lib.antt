@@ -1,3 +1,4 @@
 pub mod Costs
 pub mod BestUpTo
 pub mod Gains
+mod KnownValues
