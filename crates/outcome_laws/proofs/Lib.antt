@@ -2,4 +2,5 @@ pub mod Runs
 pub mod SumLists
 pub mod SettledBricks
 pub mod OneOutcome
+pub mod OneLimit
 pub mod OneCertificate

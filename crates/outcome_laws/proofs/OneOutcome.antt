@@ -58,7 +58,7 @@ module _ (p : Program) where
 
   -- ---- the two phases
 
-  counted_unique : (b : Bases) (x : Bricks) (made other : Option RunRecord) (y z : Bricks) →
+  pub counted_unique : (b : Bases) (x : Bricks) (made other : Option RunRecord) (y z : Bricks) →
       CountedPart p b x made y → CountedPart p b x other z → (made ≡ other) × (y ≡ z)
   counted_unique b x None None y z first second = (refl, first.1 ∙ sym second.1)
   counted_unique b x None (Some other) y z first second = absurd (omega (arith, first.0, second.0))
@@ -99,13 +99,13 @@ module _ (p : Program) where
   abbrev pub saying : Outcome → Verdict → Outcome
   saying o v = record { verdict = v; point = o.point; traces = o.traces; counted = o.counted; closed = o.closed }
 
-  abbrev SaysStuck : Outcome → ℕ → ℕ → Type 0
+  abbrev pub SaysStuck : Outcome → ℕ → ℕ → Type 0
   SaysStuck o number residual = IsOutcome p (saying o (InfeasibleBrick number residual))
 
-  abbrev SaysMissed : Outcome → ℕ → Type 0
+  abbrev pub SaysMissed : Outcome → ℕ → Type 0
   SaysMissed o residual = IsOutcome p (saying o (InfeasibleLink residual))
 
-  abbrev SaysBest : Outcome → ℤ → Type 0
+  abbrev pub SaysBest : Outcome → ℤ → Type 0
   SaysBest o value = IsOutcome p (saying o (Optimal value))
 
   missed_reached : (o : Outcome) (residual : ℕ) (is : SaysMissed o residual) →
@@ -173,15 +173,20 @@ module _ (p : Program) where
 
   -- ---- no two of different kinds
 
-  -- a brick that is stuck settles by no slack basis
+  -- where a brick is stuck, the bricks do not all settle
+  pub stuck_or_settled : (o : Outcome) (number residual : ℕ) (basis : List Vector) (ts : List (List BrickMove))
+      (x : Bricks) → SaysStuck o number residual → IsSlackBasis p.brick basis → AllSettle p basis p.bricks ts x → ⊥
+  stuck_or_settled o number residual basis ts x is slack settled =
+      let first = is.3 in
+      let same = slack_basis_unique p.brick basis is.0 slack is.2 in
+      settled_or_stuck p is.0 p.bricks ts x first.place first.brick first.last is.1
+      (subst (λ zs. AllSettle p zs p.bricks ts x) same settled) first.there first.run
+      (omega (arith, first.left, first.stuck))
+
   stuck_or_reached : (o : Outcome) (number residual : ℕ) (b : Bases) (ts : List (List BrickMove))
       (made : Option RunRecord) (y : Bricks) → SaysStuck o number residual → IsReached b ts made y → ⊥
   stuck_or_reached o number residual b ts made y is reached =
-      let first = is.3 in
-      let same = slack_basis_unique p.brick b.brick is.0 reached.bases.brick is.2 in
-      settled_or_stuck p is.0 p.bricks ts reached.x first.place first.brick first.last is.1
-      (subst (λ basis. AllSettle p basis p.bricks ts reached.x) same reached.settled) first.there first.run
-      (omega (arith, first.left, first.stuck))
+      stuck_or_settled o number residual b.brick ts reached.x is reached.bases.brick reached.settled
 
   -- the linking rows are missed or met at the end of the first phase
   missed_or_best : (o q : Outcome) (residual : ℕ) (value : ℤ) → SaysMissed o residual → SaysBest q value → ⊥

@@ -1,6 +1,6 @@
-//! That a program has at most one outcome: the rules of the solver pick one step, so their runs are one list of steps,
-//! and lists in order are known by their members; so the outcome of a program and the certificate of an outcome are
-//! each one.
+//! That a program has at most one ending: the rules of the solver pick one step, so their runs are one list of steps,
+//! and lists in order are known by their members; so the outcome of a program, the certificate of an outcome and the
+//! limit that is passed first are each one, and an outcome that is reached within the limits leaves none to be passed.
 #![tactic(auto)]
 
 ghost use Rattle.std.specs.Prelude.{◌≡◌, List};
@@ -11,6 +11,9 @@ ghost use Rattle.run_theory.specs.Steps.{Move, IsBest, IsRun};
 ghost use Rattle.run_theory.specs.BrickRuns.{BrickMove, IsBrickRunFrom};
 ghost use Rattle.run_theory.specs.Certificates.{Certificate};
 ghost use Rattle.run_theory.specs.Outcomes.{Outcome, IsOutcome, IsCertificate};
+ghost use Rattle.run_theory.specs.declared.SolveFault.{SolveFault};
+ghost use Rattle.run_theory.specs.Limits.{Caps, IsLimit};
+ghost use Rattle.run_theory.specs.Solved.{IsWithinCaps};
 
 /// Law: the rule picks one step: two best moves from a point are one move.
 pub fn one_rule_step()
@@ -40,4 +43,15 @@ pub fn one_outcome()
 pub fn one_certificate()
     ensures { (p : Program) (o : Outcome) (c d : Certificate) →
         IsProgram p → IsOutcome p o → IsCertificate p o c → IsCertificate p o d → c ≡ d }
+{}
+
+/// Law: a program passes at most one limit first.
+pub fn one_limit()
+    ensures { (p : Program) (c : Caps) (f g : SolveFault) → IsLimit p c f → IsLimit p c g → f ≡ g }
+{}
+
+/// Law: where all that its outcome reaches is within the limits, a program passes none of them.
+pub fn an_outcome_within_its_limits_passes_none()
+    ensures { (p : Program) (c : Caps) (o : Outcome) (f : SolveFault) →
+        IsOutcome p o → IsWithinCaps p c o.verdict → IsLimit p c f → ⊥ }
 {}
