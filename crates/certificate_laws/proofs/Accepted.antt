@@ -7,11 +7,10 @@ use Rattle.run_theory.specs.declared.Claim.{Claim}
 use Rattle.run_theory.specs.declared.Claim.TheVariants as claim
 use Rattle.fold_theory.specs.declared.Verdict.{Verdict}
 use Rattle.fold_theory.specs.declared.Verdict.TheVariants.{Optimal, InfeasibleBrick, InfeasibleLink}
-use Rattle.lattice_theory.specs.Lattices.{IsSlackBasis}
 use Rattle.lattice_theory.specs.SignedSums.{Sum, vectors}
 use Rattle.lattice_laws.proofs.SlackBases.{slack_basis_unique}
 use Rattle.fold_theory.specs.Programs.{Program, Bricks, IsBrick, IsProgram, link_rests, link_miss}
-use Rattle.run_theory.specs.Links.{Bases, AreBases, generators, links_of, fold_complexity}
+use Rattle.run_theory.specs.Links.{Bases, AreBases, fold_complexity}
 use Rattle.run_theory.specs.BrickSums.{AreBrickSums}
 use Rattle.run_theory.specs.BrickRuns.{BrickMove}
 use Rattle.run_theory.specs.Certificates.{Certificate, FoldPart}
@@ -20,7 +19,8 @@ use Rattle.run_theory.specs.Checker.{fold_rules, first_failing, Accept}
 use Rattle.yes_laws.proofs.Accepted.{bricks_of}
 use Rattle.certificate_laws.proofs.Passing.{nat_lt_of}
 use Rattle.certificate_laws.proofs.StuckBricks.{stuck_certificate, first_stuck_accepted}
-use Rattle.certificate_laws.proofs.BrickSums.{listed_still, sums_unique}
+use Rattle.outcome_laws.proofs.OneOutcome.{bases_unique, brick_sums_unique}
+use Rattle.certificate_laws.proofs.BrickSums.{listed_still}
 use Rattle.certificate_laws.proofs.PhaseRuns.{settled, IsMet, IsDone, run_done}
 use Rattle.certificate_laws.proofs.FoldRules.{fold_part, fold_certificate, fold_rules_hold}
 
@@ -54,15 +54,6 @@ stuck_is_accepted p o c number residual program verdict outcome certificate =
     (subst (λ k. IsCertificate p (judged o k) c) verdict certificate)
 
 -- ---- the claims on all bricks
-
--- two pairs of bases of a program are one
-bases_unique : (p : Program) (a b : Bases) → AreBases p a → AreBases p b → a ≡ b
-bases_unique p a b h k =
-    let bricks : a.brick ≡ b.brick = slack_basis_unique p.brick a.brick b.brick h.brick k.brick in
-    let moved : IsSlackBasis (links_of p b.brick) a.links =
-    subst (λ g. IsSlackBasis (links_of p g) a.links) bricks h.links in
-    let links : a.links ≡ b.links = slack_basis_unique (links_of p b.brick) a.links b.links moved k.links in
-    λ i. record { brick = bricks i; links = links i }
 
 module _ (p : Program) (program : IsProgram p) where
   abbrev s : ℕ
@@ -106,9 +97,8 @@ module _ (p : Program) (program : IsProgram p) where
   over : (phase : Phase) (b : Bases) (x : Bricks) → Finished phase b x → (sums : List Sum) →
       AreBrickSums p phase b sums → IsDone p phase (vectors sums) x
   over phase b x finished sums all =
-      subst (λ zs. IsDone p phase zs x)
-      (sums_unique p.brick.cols (generators p b.brick) (fold_complexity p phase b) finished.sums sums finished.all all)
-      finished.done
+      subst (λ ss. IsDone p phase (vectors ss) x)
+      (brick_sums_unique p phase b finished.sums sums finished.all all) finished.done
 
   link_finished : (b : Bases) (x : Bricks) (o : Option RunRecord) (y : Bricks) → AreBases p b → IsMet p Counted x →
       CountedPart p b x o y → 0 < link_miss p (link_rests p y) → Finished Counted b y

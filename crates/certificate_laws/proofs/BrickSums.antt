@@ -1,5 +1,5 @@
--- The list of all signed sums of generators: it is one list, closed under one more generator, and where the generators
--- have no products with the rows, neither have the sums.
+-- The list of all signed sums of generators: it is closed under one more generator, and where the generators have no
+-- products with the rows, neither have the sums.
 use Rattle.std.proofs.Common.{◌≡◌, ℕ, zero, suc, ◌≤◌, nat_le, Bool, true, false, ◌&&◌, ◌||◌, List, [], ◌∷◌, length, map, refl, ap, arith, sym, ◌∙◌, Contains, inl, inr, subst}
 use Rattle.std.proofs.lemmas.Bool.{cases_lt}
 use Rattle.std.proofs.lemmas.List.Elements.{All-contains, All-from_recursion}
@@ -12,7 +12,6 @@ use Rattle.lattice_laws.proofs.Tests.{same_refl}
 use Rattle.lattice_laws.proofs.Members.{contains_cases, contains_head, contains_tail}
 use Rattle.lattice_laws.proofs.Conformal.{length-add}
 use Rattle.lattice_laws.proofs.Products.{rows-add, rows-zeros, length-zeros}
-use Rattle.lattice_laws.proofs.Rising.{rising_unique}
 use Rattle.run_theory.specs.Certificates.{sum_of_row}
 use Rattle.run_theory.specs.Outcomes.{row_of_sum}
 use Rattle.run_theory.specs.Checker.{is_sum_within, sums_are_closed}
@@ -115,16 +114,6 @@ module _ (t : ℕ) (gens : List Vector) (g : ℕ) where
         and_of (rising && begins) (list_all each sums)
         (and_of rising begins all.rising (within 0 (zeros t) (omega arith) refl))
         (list_all_of each sums more)
-
-  -- two such lists have the same vectors
-  pub sums_unique : (us vs : List Sum) → AreSums t gens g us → AreSums t gens g vs → vectors us ≡ vectors vs
-  sums_unique us vs a b =
-      rising_unique (vectors us) (vectors vs) a.rising b.rising (λ z c. moved us vs a b z c)
-      (λ z c. moved vs us b a z c)
-    where
-      moved : (xs ys : List Sum) → AreSums t gens g xs → AreSums t gens g ys → (z : Vector) → Contains (vectors xs) z →
-          Contains (vectors ys) z
-      moved xs ys h k z c = let r = reached xs h z c in k.complete r.level z r.low r.is
 
 -- the rows of a certificate are read back
 pub read_back : (sums : List Sum) → map sum_of_row (map row_of_sum sums) ≡ sums

@@ -2,37 +2,28 @@
 -- v1 + v2 = 9 at (4, 4), which is stuck; and a brick with the row v = 4 at (4), where the linking row, v at most 5, is
 -- met too.
 use Rattle.std.specs.Prelude.{◌≡◌, ℕ, suc, zero, ◌≤◌, ℤ, pos, ◌≤ℤ◌, List, [], ◌∷◌, length, Contains, Option, Some, None, slice_get, refl}
-use Rattle.std.proofs.Common.{arith, ap, sym, inl, inr, subst}
+use Rattle.std.proofs.Common.{arith, ap, subst}
 use Rattle.std.proofs.lemmas.Int.{ints}
-use Rattle.std.proofs.lemmas.List.Elements.{All-head, All-nil, All-from_recursion, recursion_from_All}
-use Rattle.std.specs.List.{list_all}
+use Rattle.std.proofs.lemmas.List.Elements.{All-head, All-nil, All-from_recursion}
 use Rattle.run_theory.specs.declared.Claim.TheVariants as claim
 use Rattle.fold_theory.specs.declared.Phase.TheVariants.{Closed}
-use Rattle.fold_theory.specs.declared.Relation.TheVariants.{Equal, Less}
-use Rattle.fold_theory.specs.declared.Verdict.TheVariants.{Optimal, InfeasibleBrick}
-use Rattle.lattice_theory.specs.Vectors.{Vector, is_zero}
-use Rattle.lattice_theory.specs.Matrices.{Matrix, HasShape}
-use Rattle.lattice_theory.specs.BasisLimits.{IsBasisElement}
-use Rattle.lattice_theory.specs.SignedSums.{Sum, IsSignedSum, HasLevel}
+use Rattle.fold_theory.specs.declared.Relation.TheVariants.{Equal}
+use Rattle.fold_theory.specs.declared.Verdict.TheVariants.{InfeasibleBrick}
+use Rattle.lattice_theory.specs.Vectors.{Vector}
 use Rattle.lattice_theory.proofs.KnownValues.{two}
-use Rattle.lattice_laws.proofs.Tests.{not_both}
-use Rattle.lattice_laws.proofs.Members.{contains_cases, contains_head}
-use Rattle.lattice_laws.proofs.Elements.{element-lifted}
-use Rattle.lattice_laws.proofs.UnitVectors.{without_rows, first_units, units_elements}
-use Rattle.fold_theory.specs.Costs.{value, IsConvexOn}
+use Rattle.lattice_laws.proofs.Members.{contains_head}
+use Rattle.fold_theory.specs.Costs.{value}
 use Rattle.fold_theory.specs.Programs.{Program, Brick, Bricks, IsBrick, IsProgram, IsWithin, brick_residual, link_rests}
-use Rattle.run_theory.specs.Links.{Bases, AreBases}
-use Rattle.run_theory.specs.BrickSums.{AreBrickSums}
 use Rattle.run_theory.specs.BrickRuns.{BrickMove, stepped, Improves}
-use Rattle.run_theory.specs.Steps.{NoneAugments}
 use Rattle.run_theory.specs.Walks.{WalkCosts, IsPotential}
 use Rattle.run_theory.specs.Certificates.{Certificate, FoldPart, Table}
-use Rattle.run_theory.specs.Outcomes.{RunRecord, IsRecorded, Outcome, IsOutcome, IsCertificate, IsFoldPart, ArePotentials, FirstStuck}
+use Rattle.run_theory.specs.Outcomes.{Outcome, IsOutcome, IsCertificate, IsFoldPart, ArePotentials, FirstStuck}
 use Rattle.run_theory.specs.Checker.{Accept}
 use Rattle.fold_theory.proofs.KnownValues.{square, free}
 use Rattle.fold_laws.proofs.KnownValues.{one_row}
 use Rattle.certificate_laws.proofs.Accepted.{stuck_is_accepted, outcome_is_accepted}
-use Rattle.certificate_laws.proofs.KnownValues.{row, pair, basis, it_is_slack, slack_of}
+use Rattle.outcome_laws.proofs.KnownValues.{convex_at_four, small_program, small_is_a_program, bases, they_are_bases, zero_vector, they_are_sums, sums, only_sum, point, small_outcome, it_is_optimal}
+use Rattle.certificate_laws.proofs.KnownValues.{row, pair, basis, it_is_slack}
 
 -- ---- a brick that is stuck
 
@@ -50,10 +41,6 @@ the_program = record {
   brick = pair;
   bricks = brick ∷ [];
 }
-
--- there is no number between 4 and 4
-convex_at_four : (f : ℤ → ℤ) → IsConvexOn f (pos 4) (pos 4)
-convex_at_four f v low high = absurd (omega (arith, ints, low, high))
 
 it_is_a_program : IsProgram the_program
 it_is_a_program = record {
@@ -143,137 +130,6 @@ pub by_the_rules : Accept the_program the_certificate
 by_the_rules = refl
 
 -- ---- a point of the least cost
-
-abbrev one : Matrix
-one = record { cols = 1; rows = (pos 1 ∷ []) ∷ [] }
-
--- the row is met at 4 alone
-abbrev small_brick : Brick
-small_brick = record { lower = pos 4 ∷ []; upper = pos 4 ∷ []; right = pos 4 ∷ []; costs = square ∷ [] }
-
-abbrev small_program : Program
-small_program = record {
-  link = one;
-  link_right = pos 5 ∷ [];
-  relations = Less ∷ [];
-  brick = one;
-  bricks = small_brick ∷ [];
-}
-
-one_shape : HasShape 1 1 one
-one_shape = record {
-  height = refl;
-  width = refl;
-  each_row = All-from_recursion (λ r. length r ≡ 1) one.rows (refl, tt);
-}
-
-small_is_a_program : IsProgram small_program
-small_is_a_program = record {
-  link_shape = one_shape;
-  brick_shape = one_shape;
-  right_size = refl;
-  relations_size = refl;
-  each_brick = All-from_recursion (IsBrick 1 1) small_program.bricks (
-    record {
-      lower_size = refl;
-      upper_size = refl;
-      right_size = refl;
-      uncrossed = (omega (arith, ints), tt);
-      costs_size = refl;
-      convex = (convex_at_four (value square), tt);
-    },
-    tt,
-  );
-}
-
--- no vector but 0 has the product 0 with the row, so there are no generators
-abbrev bases : Bases
-bases = record { brick = two (pos 1) (pos 1) ∷ []; links = [] }
-
-they_are_bases : AreBases small_program bases
-they_are_bases = record {
-  brick =
-      slack_of one bases.brick
-      (All-from_recursion (IsBasisElement one) bases.brick (
-        element-lifted (without_rows 1) (one).rows (pos 1 ∷ [])
-            (recursion_from_All (IsBasisElement (without_rows 1)) (first_units 1 1) (units_elements 1)).0,
-        tt,
-      ))
-      refl refl;
-  links =
-      slack_of (record { cols = 0; rows = [] ∷ [] }) []
-      (All-nil (IsBasisElement (record { cols = 0; rows = [] ∷ [] }))) refl refl;
-}
-
--- of no generators 0 is the one sum
-abbrev zero_vector : Vector
-zero_vector = pos 0 ∷ []
-
-abbrev sums : List Sum
-sums = record { level = 0; vector = zero_vector } ∷ []
-
-they_are_sums : AreBrickSums small_program Closed bases sums
-they_are_sums = record {
-  rising = refl;
-  sound = All-from_recursion (λ s. (s.level ≤ 1) × HasLevel 1 [] s) sums (
-    (omega arith, record { reached = refl; least = λ n h. omega arith }),
-    tt,
-  );
-  complete = all_sums;
-}
-  where
-    all_sums : (n : ℕ) (w : Vector) → n ≤ 1 → IsSignedSum 1 [] n w → Contains (zero_vector ∷ []) w
-    all_sums zero w low e = subst (Contains (zero_vector ∷ [])) (sym e) (contains_head zero_vector [])
-    all_sums (suc n) w low (before, e, sum, (k, few, q), is) = absurd (omega arith)
-
-only_sum : (w : Vector) → Contains (zero_vector ∷ []) w → w ≡ zero_vector
-only_sum w c = elim (contains_cases zero_vector [] w c) [
-  | inl e ↦ sym e
-  | inr d ↦ absurd (omega (arith, d.1))
-]
-
-abbrev point : Bricks
-point = (pos 4 ∷ []) ∷ []
-
--- no move is left
-none_augments : NoneAugments small_program Closed (zero_vector ∷ []) point
-none_augments k [] h = absurd (omega (arith, h.candidate.walk.size))
-none_augments k (d ∷ e ∷ rest) h = absurd (omega (arith, h.candidate.walk.size))
-none_augments k (d ∷ []) h =
-    let still = only_sum d (All-head (Contains (zero_vector ∷ [])) d [] h.candidate.walk.moves) in
-    absurd (not_both (list_all is_zero (d ∷ [])) (ap (λ v. list_all is_zero (v ∷ [])) still) h.candidate.nonzero)
-
-abbrev no_steps : RunRecord
-no_steps = record { steps = []; gain = 0; factor = 0 }
-
--- the square of 4
-abbrev small_outcome : Outcome
-small_outcome = record {
-  verdict = Optimal (pos 16);
-  point = point;
-  traces = [] ∷ [];
-  counted = None;
-  closed = Some no_steps;
-}
-
-small_settles : (m : BrickMove) → Improves small_program bases.brick small_brick (pos 4 ∷ []) m → ⊥
-small_settles m helps = absurd (omega (arith, helps.lowers))
-
-small_recorded : IsRecorded small_program Closed (zero_vector ∷ []) point no_steps point
-small_recorded = record { moves = []; run = (none_augments, refl); steps = refl; fallen = refl; factor = refl }
-
-it_is_optimal : IsOutcome small_program small_outcome
-it_is_optimal = (
-  bases,
-  point,
-  point,
-  they_are_bases,
-  ((small_settles, refl), refl, tt),
-  (refl, refl),
-  refl,
-  (sums, they_are_sums, small_recorded),
-  refl,
-)
 
 -- the move 0 costs nothing, and so does the end
 abbrev potentials : Table

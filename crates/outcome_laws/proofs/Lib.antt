@@ -4,3 +4,4 @@ pub mod SettledBricks
 pub mod OneOutcome
 pub mod OneLimit
 pub mod OneCertificate
+pub mod KnownValues
