@@ -24,10 +24,12 @@ abbrev program : Program
 program = record {
   link = record { cols = 1; rows = [] };
   link_right = [];
+  relations = [];
   brick = record { cols = 1; rows = [] };
   bricks = brick ∷ [];
 }
 
--- it starts at 2, has no row to miss, and takes no step
+-- it starts at 2, which is within the bounds, has no row to miss, and takes no step
 settles_at_once : IsBrickEnd program ((pos 1 ∷ []) ∷ []) 1 [] (pos 2 ∷ []) 0
-settles_at_once = (brick, refl, (λ m step. absurd (omega (arith, step.lowers)), refl), refl)
+settles_at_once =
+    (brick, refl, (λ m step. absurd (omega (arith, step.lowers)), refl), refl, ((record { le = tt }, tt), (record { le = tt }, tt)))

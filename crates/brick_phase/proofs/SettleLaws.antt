@@ -162,4 +162,5 @@ module _ (p : Program) (basis : List Vector) (i : ℕ) (m : Moves) (moves : AreM
         there,
         LeadsOn-done p basis b (nearest_point b) trace a.point.items (no_move p basis m moves b a.point.items none) (so_far b there),
         sym (place b there).residual,
+        (place b there).within,
       )

@@ -1,9 +1,8 @@
 -- What a point breaks, place by place.
-use Rattle.std.proofs.Common.{◌≡◌, ℕ, ◌+◌, ◌<◌, ℤ, pos, ◌-ℤ◌, List, [], ◌∷◌, ◌++◌, length, drop, get_or, map, refl, ap, arith, Some, None, slice_get, cond, add-one, ◌≤◌, ◌-◌}
+use Rattle.std.proofs.Common.{◌≡◌, ℕ, ◌+◌, ◌<◌, ℤ, pos, ◌-ℤ◌, List, [], ◌∷◌, ◌++◌, length, drop, get_or, map, refl, ap, arith, Some, None, slice_get, cond, add-one, ◌≤◌, ◌-◌, unsigned_abs, nat_eq}
 use Rattle.std.proofs.Math.Seq.{drop-cons}
 use Rattle.std.proofs.lemmas.List.{drop_all}
 use Rattle.std.proofs.lemmas.Option.{get_or_from_slice_get, slice_get_within}
-use Rattle.std.specs.Ordering.{int_eq}
 use Rattle.lattice_theory.specs.Lists.{zip_with}
 use Rattle.lattice_theory.specs.Vectors.{Vector, sub, dot}
 use Rattle.fold_theory.specs.declared.Broken.{Broken}
@@ -23,8 +22,9 @@ rests_step at right rows v row d inside there =
 
 -- the first row from a place on: the row there, if it is missed, or the first after it
 pub row_breaks_step : (name : ℕ → Broken) (at : ℕ) (right : Vector) (rows : List Vector) (v row : Vector) → at < length right → slice_get rows at ≡ Some row →
-    row_breaks name (at + 1) (rests_from at right rows v)
-    ≡ cond (int_eq (get_or right at (pos 0) -ℤ dot row v) (pos 0)) [] (name (at + 1) ∷ []) ++ row_breaks name (at + 1 + 1) (rests_from (at + 1) right rows v)
+    row_breaks name (at + 1) (map unsigned_abs (rests_from at right rows v))
+    ≡ cond (nat_eq (unsigned_abs (get_or right at (pos 0) -ℤ dot row v)) 0) [] (name (at + 1) ∷ [])
+    ++ row_breaks name (at + 1 + 1) (map unsigned_abs (rests_from (at + 1) right rows v))
 row_breaks_step name at right rows v row inside there =
     rw (rests_step at right rows v row (pos 0) inside there) (rw (add-one, add-one) refl)
 
@@ -57,15 +57,15 @@ from_brick f i bs x b v from brick vector =
     let next : i + 1 - 1 ≡ i - 1 + 1 = omega arith in
     rw next (over_bricks_step f i (i - 1) bs x b v brick vector)
 
--- the first row from row i on: this one, if its rest is not 0, or the first after it
-pub from_row : (name : ℕ → Broken) (i : ℕ) (rests : Vector) (rest : ℤ) → 1 ≤ i → slice_get rests (i - 1) ≡ Some rest →
-    row_breaks name i (drop (i - 1) rests) ≡ cond (int_eq rest (pos 0)) [] (name i ∷ []) ++ row_breaks name (i + 1) (drop (i + 1 - 1) rests)
-from_row name i rests rest from there =
+-- the first row from row i on: this one, if it misses anything, or the first after it
+pub from_row : (name : ℕ → Broken) (i : ℕ) (misses : List ℕ) (miss : ℕ) → 1 ≤ i → slice_get misses (i - 1) ≡ Some miss →
+    row_breaks name i (drop (i - 1) misses) ≡ cond (nat_eq miss 0) [] (name i ∷ []) ++ row_breaks name (i + 1) (drop (i + 1 - 1) misses)
+from_row name i misses miss from there =
     let next : i + 1 - 1 ≡ i - 1 + 1 = omega arith in
-    rw next (rw (drop-there rests (i - 1) rest there) (rw add-one (rw add-one refl)))
+    rw next (rw (drop-there misses (i - 1) miss there) (rw add-one (rw add-one refl)))
 
-pub row_breaks_end : (name : ℕ → Broken) (i : ℕ) (rests : Vector) → length rests ≤ i → row_breaks name (i + 1) (drop (i + 1 - 1) rests) ≡ []
-row_breaks_end name i rests all = ap (row_breaks name (i + 1)) (drop_all (i + 1 - 1) rests (omega arith))
+pub row_breaks_end : (name : ℕ → Broken) (i : ℕ) (misses : List ℕ) → length misses ≤ i → row_breaks name (i + 1) (drop (i + 1 - 1) misses) ≡ []
+row_breaks_end name i misses all = ap (row_breaks name (i + 1)) (drop_all (i + 1 - 1) misses (omega arith))
 
 module _ {A B C : Type 0} where
   pub length-zip_with : (f : A → B → C) (xs : List A) (ys : List B) → length (zip_with f xs ys) ≤ length xs

@@ -69,8 +69,8 @@ two_largest : program_refusal (program_of (parts_with zeros (two (pos (2 ^ 30)) 
 two_largest = refl
 
 -- the last letters of each name
-suffixes : map suffix_of (file.Link ∷ file.Brick ∷ file.Lower ∷ file.Upper ∷ file.Right ∷ file.Costs ∷ file.Point ∷ file.Cert ∷ file.Plain ∷ [])
+suffixes : map suffix_of (file.Link ∷ file.Brick ∷ file.Lower ∷ file.Upper ∷ file.Right ∷ file.Relations ∷ file.Costs ∷ file.Point ∷ file.Cert ∷ file.Plain ∷ [])
     ≡ (46 ∷ 108 ∷ 105 ∷ 110 ∷ 107 ∷ 46 ∷ 109 ∷ 97 ∷ 116 ∷ []) ∷ (46 ∷ 98 ∷ 114 ∷ 105 ∷ 99 ∷ 107 ∷ 46 ∷ 109 ∷ 97 ∷ 116 ∷ [])
-    ∷ (46 ∷ 108 ∷ 98 ∷ []) ∷ (46 ∷ 117 ∷ 98 ∷ []) ∷ (46 ∷ 114 ∷ 104 ∷ 115 ∷ []) ∷ (46 ∷ 99 ∷ 111 ∷ 115 ∷ 116 ∷ [])
+    ∷ (46 ∷ 108 ∷ 98 ∷ []) ∷ (46 ∷ 117 ∷ 98 ∷ []) ∷ (46 ∷ 114 ∷ 104 ∷ 115 ∷ []) ∷ (46 ∷ 114 ∷ 101 ∷ 108 ∷ []) ∷ (46 ∷ 99 ∷ 111 ∷ 115 ∷ 116 ∷ [])
     ∷ (46 ∷ 112 ∷ 116 ∷ []) ∷ (46 ∷ 99 ∷ 101 ∷ 114 ∷ 116 ∷ []) ∷ (46 ∷ 109 ∷ 97 ∷ 116 ∷ []) ∷ []
 suffixes = refl

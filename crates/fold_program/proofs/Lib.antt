@@ -3,6 +3,7 @@ mod BrickLaws
 mod ViewLaws
 mod BreakLaws
 mod SumLaws
+mod MissLaws
 mod FeasibleLaws
 mod ScanLaws
 mod BoundLaws
@@ -11,3 +12,4 @@ mod PartsLaws
 mod CostLaws
 mod PointLaws
 mod RestLaws
+mod PlaceLaws

@@ -2,14 +2,16 @@
 use Rattle.std.proofs.Common.{◌≡◌, ℕ, ◌+◌, ◌*◌, ◌^◌, ◌-◌, ◌≤◌, ◌<◌, nat_lt, Bool, true, false, List, [], ◌∷◌, ◌++◌, length, drop, refl, ap, arith, sym, ◌∙◌, Some, None, cond, length-take, sum_by, min, All, subst, IsTrue}
 use Rattle.std.specs.List.{AllByRecursion, zip}
 use Rattle.std.proofs.lemmas.Bool.Decides.{nat_tests}
-use Rattle.std.proofs.lemmas.List.{length-drop, append-nil}
+use Rattle.std.proofs.lemmas.List.{length-drop, length-replicate, append-nil}
 use Rattle.std.proofs.lemmas.List.Elements.{recursion_from_All, All-from_recursion, All-append, All-head, All-tail, All-nil}
 use Rattle.std.proofs.Math.Nat.{mul-le-mul_right}
 use Rattle.lattice_theory.specs.Vectors.{Vector, is_bounded}
 use Rattle.fold_theory.specs.declared.Cost.{Cost}
+use Rattle.fold_theory.specs.declared.Relation.{Relation}
+use Rattle.fold_theory.specs.declared.Relation.TheVariants.{Equal}
 use Rattle.fold_theory.specs.Costs.{BoundedCost}
-use Rattle.fold_theory.specs.Programs.{IsBrick, IsProgram}
-use Rattle.fold_program.specs.Parts.{PartsValue, bricks_from, program_of, AreEven}
+use Rattle.fold_theory.specs.Programs.{Program, IsBrick, IsProgram}
+use Rattle.fold_program.specs.Parts.{PartsValue, bricks_from, program_of, related, AreEven}
 use Rattle.fold_program.specs.Refusals.{Refusal, first_misshaped, CostAt, CostSum, head_of, of_each, crossed_in, cost_faults_in, program_refusal, total_magnitude, brick_magnitude}
 use Rattle.fold_program.specs.declared.parts.Parts.{Parts}
 use Rattle.fold_program.specs.declared.fault.ProgramFault.{ProgramFault}
@@ -133,6 +135,7 @@ module _ (p : PartsValue) (shaped : AreShaped p) (even : AreEven p) where
             each_row = subst (λ (n : ℕ). All (λ row. length row ≡ n) p.brick.rows) shaped.brick_cols even.brick;
           };
           right_size = simp length-take (omega arith);
+          relations_size = length-replicate (length p.link.rows) Equal;
           each_brick = All-from_recursion (IsBrick p.link.cols (length p.brick.rows)) (program_of p).bricks fit;
         }
 
@@ -146,11 +149,21 @@ is_program_fault p shaped even fits (fault.CrossedBounds i j) none refused = abs
 is_program_fault p shaped even fits fault.CostSumTooLarge none refused = absurd refused
 is_program_fault p shaped even fits fault.Memory none refused = tt
 
+-- a program with other relations, one for each linking row
+pub is_related : (p : Program) (relations : List Relation) → IsProgram p → length relations ≡ length p.link.rows → IsProgram (related relations p)
+is_related p relations program size = record {
+  link_shape = program.link_shape;
+  brick_shape = program.brick_shape;
+  right_size = program.right_size;
+  relations_size = size;
+  each_brick = program.each_brick;
+}
+
 -- all that a program keeps is true of parts that are accepted
 pub is_kept : (p : PartsValue) → AreShaped p → AreEven p → AreWithinLimits p → (cs : List BoundedCost) → AreBoundCosts p.costs (flat p.lower.rows) (flat p.upper.rows) cs →
-    min (sum_by cost_magnitude cs) (2 ^ 128 - 1) ≤ 2 ^ 120 →
-    IsKept (record { link = p.link; brick = p.brick; lower = p.lower; upper = p.upper; right = p.right; costs = cs })
-is_kept p shaped even limits cs bound small = record {
+    min (sum_by cost_magnitude cs) (2 ^ 128 - 1) ≤ 2 ^ 120 → (relations : List Relation) → length relations ≡ length p.link.rows →
+    IsKept (record { link = p.link; brick = p.brick; lower = p.lower; upper = p.upper; right = p.right; costs = cs; relations = relations })
+is_kept p shaped even limits cs bound small relations size = record {
   link_rows = shaped.link_rows;
   cols_from = shaped.cols_from;
   cols_to = shaped.cols_to;
@@ -173,6 +186,6 @@ is_kept p shaped even limits cs bound small = record {
   uppers = bound.upper_is;
   small = subst (λ (costs : List Cost). total_magnitude (program_of (record { link = p.link; brick = p.brick; lower = p.lower; upper = p.upper; right = p.right; costs = costs })) ≤ 2 ^ 120)
       (sym bound.costs_are) (small_sum p shaped even cs bound small);
-  program = subst (λ (costs : List Cost). IsProgram (program_of (record { link = p.link; brick = p.brick; lower = p.lower; upper = p.upper; right = p.right; costs = costs })))
-      (sym bound.costs_are) (is_program p shaped even cs bound);
+  program = subst (λ (costs : List Cost). IsProgram (related relations (program_of (record { link = p.link; brick = p.brick; lower = p.lower; upper = p.upper; right = p.right; costs = costs }))))
+      (sym bound.costs_are) (is_related (program_of p) relations (is_program p shaped even cs bound) size);
 }

@@ -2,13 +2,14 @@
 use Rattle.std.specs.Prelude.{◌≡◌, ◌+◌, ◌*◌, ◌^◌, ◌≤◌, List, map, length, All}
 use Rattle.lattice_theory.specs.Matrices.{Matrix}
 use Rattle.lattice_theory.specs.BasisLimits.{IsNarrow}
+use Rattle.fold_theory.specs.declared.Relation.{Relation}
 use Rattle.fold_theory.specs.Costs.{BoundedCost}
 use Rattle.fold_theory.specs.Programs.{Program, IsProgram}
-use Rattle.fold_program.specs.Parts.{PartsValue, all_entries, program_of}
+use Rattle.fold_program.specs.Parts.{PartsValue, all_entries, program_of, related}
 use Rattle.fold_program.specs.Faults.{IsBoundedRow}
 use Rattle.fold_program.specs.Refusals.{total_magnitude}
 
--- the matrices, and the costs with their bounds
+-- the matrices, the costs with their bounds, and the relations of the linking rows
 pub record Stored : Type 0 where
   pub link : Matrix
   pub brick : Matrix
@@ -16,12 +17,13 @@ pub record Stored : Type 0 where
   pub upper : Matrix
   pub right : Matrix
   pub costs : List BoundedCost
+  pub relations : List Relation
 
 abbrev pub stored_parts : Stored → PartsValue
 stored_parts p = record { link = p.link; brick = p.brick; lower = p.lower; upper = p.upper; right = p.right; costs = map (λ c. c.cost) p.costs }
 
 abbrev pub stored_program : Stored → Program
-stored_program p = program_of (stored_parts p)
+stored_program p = related p.relations (program_of (stored_parts p))
 
 -- the sizes of the parts and of their entries are within their limits, the costs stand with the bounds of their columns, and
 -- the whole is a program

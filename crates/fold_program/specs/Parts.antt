@@ -1,8 +1,10 @@
 -- The program that five matrices and the costs make.
-use Rattle.std.specs.Prelude.{◌≡◌, ℕ, List, [], ◌∷◌, length, take, drop, flat_map, All}
+use Rattle.std.specs.Prelude.{◌≡◌, ℕ, List, [], ◌∷◌, length, take, drop, replicate, flat_map, All}
 use Rattle.lattice_theory.specs.Vectors.{Vector}
 use Rattle.lattice_theory.specs.Matrices.{Matrix}
 use Rattle.fold_theory.specs.declared.Cost.{Cost}
+use Rattle.fold_theory.specs.declared.Relation.{Relation}
+use Rattle.fold_theory.specs.declared.Relation.TheVariants.{Equal}
 use Rattle.fold_theory.specs.Programs.{Program, Brick}
 
 -- the two matrices, the bounds with one row for each brick, the right sides one after the other, and the costs brick by brick
@@ -25,16 +27,21 @@ bricks_from t s (l ∷ lower) (u ∷ upper) right costs =
 abbrev pub all_entries : Matrix → Vector
 all_entries m = flat_map (λ row. row) m.rows
 
--- the right sides are those of the linking rows and then those of the bricks
+-- the right sides are those of the linking rows, which are equations, and then those of the bricks
 abbrev pub program_of : PartsValue → Program
 program_of p =
     let right = all_entries p.right in
     record {
       link = p.link;
       link_right = take (length p.link.rows) right;
+      relations = replicate (length p.link.rows) Equal;
       brick = p.brick;
       bricks = bricks_from p.link.cols (length p.brick.rows) p.lower.rows p.upper.rows (drop (length p.link.rows) right) p.costs;
     }
+
+-- the program with these relations of its linking rows
+abbrev pub related : List Relation → Program → Program
+related relations p = record p { relations = relations }
 
 -- each row of the matrix has as many entries as there are columns
 abbrev pub IsEven : Matrix → Type 0

@@ -1,6 +1,7 @@
--- Facts of one brick of a program, by its number.
+-- Facts of one brick or one linking row of a program, by its number.
 use Rattle.std.specs.Prelude.{◌≡◌, ℕ, ◌-◌, ℤ, Some, slice_get}
 use Rattle.fold_theory.specs.declared.Cost.{Cost}
+use Rattle.fold_theory.specs.declared.Relation.{Relation}
 use Rattle.fold_theory.specs.Programs.{Program, Brick}
 
 -- there is a brick of this number, from 1, and this holds of it
@@ -13,3 +14,7 @@ OfColumn p i j P =
     (b : Brick) × (lower : ℤ) × (upper : ℤ) × (cost : Cost) × (slice_get p.bricks (i - 1) ≡ Some b)
     × (slice_get b.lower (j - 1) ≡ Some lower) × (slice_get b.upper (j - 1) ≡ Some upper) × (slice_get b.costs (j - 1) ≡ Some cost)
     × P lower upper cost
+
+-- there is a linking row of this number, and this holds of its relation
+abbrev pub OfRow : Program → ℕ → (Relation → Type 0) → Type 0
+OfRow p i P = (relation : Relation) × (slice_get p.relations (i - 1) ≡ Some relation) × P relation

@@ -2,8 +2,10 @@
 
 ghost use Rattle.std.specs.Prelude.{◌≡◌};
 ghost use Rattle.fold_program.specs.Files.{suffix_of};
+ghost use Rattle.fold_program.specs.declared.fault.ProgramFault.TheVariants as refused;
 
 use convex_costs::CostFault;
+use std::alloc::AllocError;
 use thiserror::Error;
 
 /// The files that a command reads.
@@ -19,6 +21,8 @@ pub enum FileKind {
     Upper,
     /// The right sides of the linking rows, and then those of each brick.
     Right,
+    /// The relations of the linking rows.
+    Relations,
     /// The costs.
     Costs,
     /// A point, one row for each brick.
@@ -40,6 +44,7 @@ impl FileKind {
             FileKind::Lower => ".lb",
             FileKind::Upper => ".ub",
             FileKind::Right => ".rhs",
+            FileKind::Relations => ".rel",
             FileKind::Costs => ".cost",
             FileKind::Point => ".pt",
             FileKind::Cert => ".cert",
@@ -78,6 +83,14 @@ pub enum ProgramFault {
     Memory,
 }
 
+impl From<AllocError> for ProgramFault {
+    ghost from_gives = { λ _ fault. fault ≡ refused.Memory };
+
+    fn from(_error: AllocError) -> ProgramFault {
+        ProgramFault::Memory
+    }
+}
+
 #[cfg(test)]
 mod tests {
     use super::*;
@@ -88,6 +101,7 @@ mod tests {
             (FileKind::Link, ".link.mat"),
             (FileKind::Lower, ".lb"),
             (FileKind::Right, ".rhs"),
+            (FileKind::Relations, ".rel"),
             (FileKind::Cert, ".cert"),
             (FileKind::Plain, ".mat"),
         ] {

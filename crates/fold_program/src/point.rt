@@ -1,7 +1,7 @@
 //! A point: one vector of whole numbers for each brick of a program.
 
 ghost use Rattle.std.specs.Prelude.{◌≡◌, ◌≤◌, ◌-◌, Some, length, slice_get, All, IfSome, IfNone};
-ghost use Rattle.fold_program.specs.Points.{IsPoint, IsNoPoint};
+ghost use Rattle.fold_program.specs.Points.{HasPointShape, IsPoint, IsNoPoint};
 ghost use Rattle.fold_program.specs.Faults.{IsBoundedRow};
 
 use crate::program::Program;
@@ -31,6 +31,7 @@ impl Point {
     /// where their number is another, or one is larger.
     pub fn new(program: &Program, entries: Vec<i64>) -> Option<Point>
         ensures made { IfSome result (IsPoint program.now entries.items) }
+        ensures shape { IfSome result (HasPointShape program.now) }
         ensures refused { IfNone result (IsNoPoint program.now entries.items) }
     {
         let (rows, cols) = (program.n(), program.t());

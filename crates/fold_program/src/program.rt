@@ -9,14 +9,17 @@ ghost use Rattle.std.specs.Prelude.{◌≡◌, ◌≤◌, ◌-◌, ◌*◌, ◌^
 ghost use Rattle.lattice_theory.specs.BasisLimits.{IsNarrow};
 ghost use Rattle.fold_theory.specs.Programs.{IsProgram};
 ghost use Rattle.fold_program.specs.Faults.{IsBoundedRow};
+ghost use Rattle.fold_program.specs.Parts.{related};
+ghost use Rattle.fold_program.specs.Refusals.{total_magnitude};
 ghost use Rattle.fold_program.specs.Places.{OfBrick};
 
 use convex_costs::BoundCost;
+use fold_theory::Relation;
 use mat_files::Matrix;
 use std::marker::Model;
 
-/// An n-fold program: `n` bricks of `t` columns with one matrix of `s` rows for each, `r` linking rows over all, and a lower
-/// bound, an upper bound and a convex cost for each column of each brick. Bricks, columns and rows are numbered from 1.
+/// An n-fold program: `n` bricks of `t` columns with one matrix of `s` rows for each, `r` linking rows over all, each with
+/// its relation, and a lower bound, an upper bound and a convex cost for each column of each brick. Bricks, columns and rows are numbered from 1.
 #[derive(Debug, Drop)]
 pub struct Program {
     link: Matrix,
@@ -25,6 +28,7 @@ pub struct Program {
     upper: Matrix,
     right: Matrix,
     costs: Vec<BoundCost>,
+    relations: Vec<Relation>,
 }
 
 impl Model for Program {
@@ -33,18 +37,20 @@ impl Model for Program {
 
     ghost Value = { programs.Program };
 
-    ghost view = { λ p. stored_program (record { link = p.link; brick = p.brick; lower = p.lower; upper = p.upper; right = p.right; costs = p.costs.items }) };
+    ghost view = { λ p. stored_program (record { link = p.link; brick = p.brick; lower = p.lower; upper = p.upper; right = p.right; costs = p.costs.items; relations = p.relations.items }) };
 
-    ghost invariant = { λ p. IsKept (record { link = p.link; brick = p.brick; lower = p.lower; upper = p.upper; right = p.right; costs = p.costs.items }) };
+    ghost invariant = { λ p. IsKept (record { link = p.link; brick = p.brick; lower = p.lower; upper = p.upper; right = p.right; costs = p.costs.items; relations = p.relations.items }) };
 }
 
 impl Program {
-    /// How many bricks there are: 1 to 10,000. The parts fit each other, no bounds cross, and each cost is convex on its bounds.
+    /// How many bricks there are: 1 to 10,000. The parts fit each other, no bounds cross, each cost is convex
+    /// on its bounds, and the magnitudes of all costs add up to at most `2^120`.
     pub fn n(&self) -> u32
         ensures bricks { result ≡ length self.now.bricks }
         ensures from { 1 ≤ result }
         ensures to { result ≤ 10000 }
         ensures program { IsProgram self.now }
+        ensures magnitude { total_magnitude self.now ≤ 2 ^ 120 }
     {
         self.lower.rows()
     }
@@ -73,6 +79,32 @@ impl Program {
         ensures to { result ≤ 16 }
     {
         self.brick.rows()
+    }
+
+    /// The program with these relations in place of its own, one for each linking row. No memory is taken.
+    pub fn with_relations(mut self, relations: Vec<Relation>) -> Program
+        requires { length relations.items ≡ length self.link.rows }
+        ensures { result ≡ related relations.items self }
+    {
+        self.relations = relations;
+        self
+    }
+
+    /// The relation of a linking row: what its sum has to be, seen from its right side.
+    pub fn relation(&self, row: u32) -> Relation
+        requires from { 1 ≤ row }
+        requires to { row ≤ length self.now.link.rows }
+        ensures { slice_get self.now.relations (row - 1) ≡ Some result }
+    {
+        self.relations[row as usize - 1]
+    }
+
+    /// The relations of the linking rows, in their order.
+    pub fn relations(&self) -> &[Relation]
+        ensures relations { result.now ≡ self.now.relations }
+        ensures size { length result.now ≡ length self.now.link.rows }
+    {
+        &self.relations
     }
 
     /// The linking matrix, whose entries are at most `2^31 - 1` in absolute value.

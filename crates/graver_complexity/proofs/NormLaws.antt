@@ -7,6 +7,7 @@ use Rattle.std.proofs.lemmas.List.Elements.{All-take, All-map, All-weaker, All-g
 use Rattle.std.proofs.lemmas.List.Folds.{list_all-append}
 use Rattle.std.proofs.lemmas.Option.{slice_get_within, get_or_from_slice_get}
 use Rattle.fold_theory.specs.declared.Phase.{Phase}
+use Rattle.fold_theory.specs.declared.Relation.{Relation}
 use Rattle.lattice_theory.specs.Lists.{greatest}
 use Rattle.lattice_theory.specs.Vectors.{Vector, norm1, is_zero, dot}
 use Rattle.lattice_theory.specs.Matrices.{Matrix}
@@ -62,39 +63,39 @@ greatest-append [] ys = omega arith
 greatest-append (x ∷ xs) ys = omega (arith, greatest-append xs ys)
 
 -- the norms of the first parts that count
-abbrev pub norms : Phase → ℕ → List Vector → List ℕ
-norms phase cols zs = map (λ z. norm1 (take cols z)) (filter (counts_in phase cols) zs)
+abbrev pub norms : Phase → List Relation → ℕ → List Vector → List ℕ
+norms phase relations cols zs = map (λ z. norm1 (take cols z)) (filter (counts_in phase relations cols) zs)
 
 -- the complexity as the first elements have it
-pub record IsGreatest (phase : Phase) (m : Matrix) (elements : List Vector) (i most : ℕ) : Type 0 where
-  pub is : most ≡ max (least_complexity m) (greatest (norms phase m.cols (take i elements)))
+pub record IsGreatest (phase : Phase) (relations : List Relation) (m : Matrix) (elements : List Vector) (i most : ℕ) : Type 0 where
+  pub is : most ≡ max (least_complexity m) (greatest (norms phase relations m.cols (take i elements)))
   pub from : 1 ≤ most
   pub small : most < 2 ^ 43
 
-pub greatest_none : (phase : Phase) (m : Matrix) (elements : List Vector) (most : ℕ) → most ≡ least_complexity m →
-    IsGreatest phase m elements 0 most
-greatest_none phase m elements most e =
+pub greatest_none : (phase : Phase) (relations : List Relation) (m : Matrix) (elements : List Vector) (most : ℕ) → most ≡ least_complexity m →
+    IsGreatest phase relations m elements 0 most
+greatest_none phase relations m elements most e =
     let least = least_complexity-from m in
     record { is = omega (arith, e); from = omega (arith, e, least.0); small = omega (arith, e, least.1) }
 
-module _ (phase : Phase) (m : Matrix) (elements : List Vector) (i : ℕ) (z : Vector)
+module _ (phase : Phase) (relations : List Relation) (m : Matrix) (elements : List Vector) (i : ℕ) (z : Vector)
     (there : slice_get elements i ≡ Some z) where
-  next : norms phase m.cols (take (i + 1) elements)
-      ≡ norms phase m.cols (take i elements) ++ norms phase m.cols (z ∷ [])
+  next : norms phase relations m.cols (take (i + 1) elements)
+      ≡ norms phase relations m.cols (take i elements) ++ norms phase relations m.cols (z ∷ [])
   next =
-      ap (norms phase m.cols)
+      ap (norms phase relations m.cols)
       (take_more elements i z (slice_get_within elements i z there)
       ∙ ap (λ y. take i elements ++ y ∷ []) (get_or_from_slice_get elements i z z there))
-      ∙ ap (map (λ y. norm1 (take m.cols y))) (filter-append (counts_in phase m.cols) (take i elements) (z ∷ []))
-      ∙ map-append (λ (y : Vector). norm1 (take m.cols y)) (filter (counts_in phase m.cols) (take i elements))
-      (filter (counts_in phase m.cols) (z ∷ []))
+      ∙ ap (map (λ y. norm1 (take m.cols y))) (filter-append (counts_in phase relations m.cols) (take i elements) (z ∷ []))
+      ∙ map-append (λ (y : Vector). norm1 (take m.cols y)) (filter (counts_in phase relations m.cols) (take i elements))
+      (filter (counts_in phase relations m.cols) (z ∷ []))
 
-  next_greatest : (b : Bool) → counts_in phase m.cols z ≡ b →
-      greatest (norms phase m.cols (take (i + 1) elements))
-      ≡ max (greatest (norms phase m.cols (take i elements))) (cond b (norm1 (take m.cols z)) 0)
+  next_greatest : (b : Bool) → counts_in phase relations m.cols z ≡ b →
+      greatest (norms phase relations m.cols (take (i + 1) elements))
+      ≡ max (greatest (norms phase relations m.cols (take i elements))) (cond b (norm1 (take m.cols z)) 0)
   next_greatest b e =
-      ap greatest next ∙ greatest-append (norms phase m.cols (take i elements)) (norms phase m.cols (z ∷ []))
-      ∙ ap (max (greatest (norms phase m.cols (take i elements))))
+      ap greatest next ∙ greatest-append (norms phase relations m.cols (take i elements)) (norms phase relations m.cols (z ∷ []))
+      ∙ ap (max (greatest (norms phase relations m.cols (take i elements))))
       (ap (λ c. greatest (map (λ (y : Vector). norm1 (take m.cols y)) (cond c (z ∷ []) []))) e ∙ one b)
     where
       one : (c : Bool) →
@@ -103,8 +104,8 @@ module _ (phase : Phase) (m : Matrix) (elements : List Vector) (i : ℕ) (z : Ve
       one false = refl
 
   -- an element that counts
-  pub greatest_counted : (most norm : ℕ) → counts_in phase m.cols z ≡ true → norm ≡ norm1 (take m.cols z) →
-      norm < 2 ^ 43 → IsGreatest phase m elements i most → IsGreatest phase m elements (i + 1) (max most norm)
+  pub greatest_counted : (most norm : ℕ) → counts_in phase relations m.cols z ≡ true → norm ≡ norm1 (take m.cols z) →
+      norm < 2 ^ 43 → IsGreatest phase relations m elements i most → IsGreatest phase relations m elements (i + 1) (max most norm)
   greatest_counted most norm counts e small so_far = record {
     is = omega (arith, next_greatest true counts, e, so_far.is);
     from = omega (arith, so_far.from);
@@ -112,18 +113,18 @@ module _ (phase : Phase) (m : Matrix) (elements : List Vector) (i : ℕ) (z : Ve
   }
 
   -- an element that does not count
-  pub greatest_left : (most : ℕ) → counts_in phase m.cols z ≡ false → IsGreatest phase m elements i most →
-      IsGreatest phase m elements (i + 1) most
+  pub greatest_left : (most : ℕ) → counts_in phase relations m.cols z ≡ false → IsGreatest phase relations m elements i most →
+      IsGreatest phase relations m elements (i + 1) most
   greatest_left most counts so_far = record {
     is = omega (arith, next_greatest false counts, so_far.is);
     from = so_far.from;
     small = so_far.small;
   }
 
-pub greatest_all : (phase : Phase) (m : Matrix) (elements : List Vector) (i most : ℕ) → length elements ≤ i →
-    IsGreatest phase m elements i most → most ≡ complexity phase m elements
-greatest_all phase m elements i most all so_far =
-    so_far.is ∙ ap (λ zs. max (least_complexity m) (greatest (norms phase m.cols zs))) (take_all i elements all)
+pub greatest_all : (phase : Phase) (relations : List Relation) (m : Matrix) (elements : List Vector) (i most : ℕ) → length elements ≤ i →
+    IsGreatest phase relations m elements i most → most ≡ complexity phase relations m elements
+greatest_all phase relations m elements i most all so_far =
+    so_far.is ∙ ap (λ zs. max (least_complexity m) (greatest (norms phase relations m.cols zs))) (take_all i elements all)
 
 -- ---- the number of columns
 
@@ -179,9 +180,8 @@ cols-few m basis size slack members few =
     let narrow = All-weaker (λ z. (length z ≡ size) × IsNarrow z) IsNarrow (λ z is. is.1) basis members in
     omega (arith, cols-basis m basis slack narrow, few)
 
--- an element has an entry for each column, and more
-pub cols-element : (m : Matrix) (basis : List Vector) (i : ℕ) (z : Vector) → IsSlackBasis m basis →
-    slice_get basis i ≡ Some z → m.cols ≤ length z
-cols-element m basis i z slack there =
-    let is = slice_get-All (IsBasisElement m) basis i z there slack.sound in
-    omega (arith, is.0.member.size)
+-- an element has an entry for each column and for each row
+pub length-element : (m : Matrix) (basis : List Vector) (i : ℕ) (z : Vector) → IsSlackBasis m basis →
+    slice_get basis i ≡ Some z → length z ≡ m.cols + length m.rows
+length-element m basis i z slack there =
+    let is = slice_get-All (IsBasisElement m) basis i z there slack.sound in is.0.member.size

@@ -1,11 +1,11 @@
-ghost use Rattle.std.specs.Prelude.{◌≡◌, All, IfSome, IfOk, IsTrue, ◌↔◌};
+ghost use Rattle.std.specs.Prelude.{◌≡◌, length, All, IfSome, IfOk, IsTrue, ◌↔◌};
 ghost use Rattle.lattice_theory.specs.Lattices.{IsSlackBasis};
 ghost use Rattle.lattice_theory.specs.BasisLimits.{IsNarrow};
 ghost use Rattle.brick_sums.specs.Generators.{AreGenerators};
 
 use super::*;
 use brick_sums::sums;
-use fold_theory::Phase;
+use fold_theory::{Phase, Relation};
 use mat_files::Matrix;
 use pottier::{Basis, BasisFault, kernel, slack_basis};
 use std::alloc::{AllocError, Global};
@@ -68,6 +68,13 @@ fn tables(alloc: Global, link: &Matrix, brick: &Matrix) -> Result<(Matrix, Matri
     Ok((gens, links, basis))
 }
 
+/// An equation for each row of the matrix.
+fn equations(alloc: Global, links: &Matrix) -> Result<Vec<Relation>, AllocError>
+    ensures { IfOk result (λ relations. length relations.items ≡ length links.now.rows) }
+{
+    vec![in alloc; Relation::Equal; links.rows() as usize]
+}
+
 /// The unit matrix of `size` rows and as many columns.
 fn unit(alloc: Global, size: u32) -> Result<Vec<i64>, AllocError> {
     let mut entries = Vec::new(alloc);
@@ -89,8 +96,9 @@ fn one_exchange_has_one_link(rt: HostRuntime) -> Result<(), Fail> {
     assert_eq!(rt; links.entries(), [1].as_slice());
     assert_eq!(rt; basis.len(), 1);
     assert_eq!(rt; basis.element(0), [1, 1].as_slice());
+    let relations = equations(rt.alloc(), &links)?;
     for phase in [Phase::Closed, Phase::Counted] {
-        assert_eq!(rt; complexity(&basis, &links, phase), 2, "in phase {phase:?}");
+        assert_eq!(rt; complexity(&basis, &links, phase, &relations), 2, "in phase {phase:?}");
     }
     Ok(())
 }
@@ -103,8 +111,9 @@ fn no_vector_of_the_kernel_has_no_link(rt: HostRuntime) -> Result<(), Fail> {
     assert_eq!(rt; (gens.rows(), gens.cols()), (0, 2));
     assert_eq!(rt; (links.rows(), links.cols()), (1, 0));
     assert_eq!(rt; basis.len(), 0);
+    let relations = equations(rt.alloc(), &links)?;
     for phase in [Phase::Closed, Phase::Counted] {
-        assert_eq!(rt; complexity(&basis, &links, phase), 1, "in phase {phase:?}");
+        assert_eq!(rt; complexity(&basis, &links, phase, &relations), 1, "in phase {phase:?}");
     }
     let listed = sums(rt.alloc(), &gens, 1, 20000)?;
     assert_eq!(rt; listed.len(), 1);
@@ -157,8 +166,9 @@ fn three_suppliers_have_seven_combinations(rt: HostRuntime) -> Result<(), Fail> 
     assert_eq!(rt; slack(rt.alloc(), &brick)?.len(), 6);
     let (_, links, basis) = tables(rt.alloc(), &link, &brick)?;
     assert_eq!(rt; basis.len(), 7);
+    let relations = equations(rt.alloc(), &links)?;
     for phase in [Phase::Closed, Phase::Counted] {
-        assert_eq!(rt; complexity(&basis, &links, phase), 3, "in phase {phase:?}");
+        assert_eq!(rt; complexity(&basis, &links, phase, &relations), 3, "in phase {phase:?}");
     }
     Ok(())
 }
@@ -170,9 +180,31 @@ fn more_suppliers_have_more_sums(rt: HostRuntime) -> Result<(), Fail> {
         let ones = vec![in rt.alloc(); 1; size as usize]?;
         let brick = matrix(rt.alloc(), 1, size, &ones).ok_or("a row of ones")?;
         let (gens, links, basis) = tables(rt.alloc(), &link, &brick)?;
-        let g = complexity(&basis, &links, Phase::Closed);
+        let relations = equations(rt.alloc(), &links)?;
+        let g = complexity(&basis, &links, Phase::Closed, &relations);
         assert_eq!(rt; g, wanted);
         assert_eq!(rt; sums(rt.alloc(), &gens, g, 20000)?.len(), count);
+    }
+    Ok(())
+}
+
+/// Up to signs `(3, -2)` is the largest combination of `2a + 3b`, and the only one that leaves it as it is.
+#[test]
+fn only_equations_are_kept(rt: HostRuntime) -> Result<(), Fail> {
+    use Relation::{Equal, Greater, Less};
+    let links = matrix(rt.alloc(), 2, 2, [2, 3, 1, 0].as_slice()).ok_or("two rows")?;
+    let basis = slack(rt.alloc(), &links)?;
+    assert_eq!(rt; basis.len(), 5);
+    for (phase, relations, wanted) in [
+        (Phase::Closed, [Equal, Equal], 2),
+        (Phase::Closed, [Equal, Less], 5),
+        (Phase::Closed, [Less, Equal], 2),
+        (Phase::Closed, [Greater, Less], 5),
+        (Phase::Counted, [Equal, Equal], 5),
+    ] {
+        assert_eq!(rt; links.rows(), 2);
+        let g = complexity(&basis, &links, phase, relations.as_slice());
+        assert_eq!(rt; g, wanted, "in phase {phase:?}");
     }
     Ok(())
 }

@@ -13,6 +13,7 @@ use crate::fault::{FileKind, ProgramFault};
 use crate::parts::Parts;
 use crate::program::Program;
 use convex_costs::{BoundCost, Cost};
+use fold_theory::Relation;
 use mat_files::Matrix;
 use std::alloc::Global;
 
@@ -20,8 +21,8 @@ use std::alloc::Global;
 const LARGEST: u128 = 1 << 120;
 
 impl Program {
-    /// The program that the parts make, or the first fault in the order of `ProgramFault`. Entries of the two
-    /// matrices are within `2^31 - 1`; bounds, right sides and the numbers of the costs are within `2^62`.
+    /// The program that the parts make, whose linking rows are equations, or the first fault in the order of
+    /// `ProgramFault`. Entries of the two matrices are within `2^31 - 1`; bounds, right sides and the numbers of the costs are within `2^62`.
     pub fn new(alloc: Global, parts: Parts) -> Result<Program, ProgramFault>
         requires limits { AreWithinLimits (parts_value parts) }
         ensures made { IfOk result (λ p. p ≡ program_of (parts_value parts)) }
@@ -49,6 +50,7 @@ impl Program {
         if total_magnitude(&costs) > LARGEST {
             return Err(ProgramFault::CostSumTooLarge);
         }
+        let relations = vec![in alloc; Relation::Equal; link.rows() as usize]?;
         Ok(Program {
             link,
             brick,
@@ -56,6 +58,7 @@ impl Program {
             upper,
             right,
             costs,
+            relations,
         })
     }
 }

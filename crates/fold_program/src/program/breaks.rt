@@ -1,11 +1,10 @@
 //! What a point breaks: the bounds first, then the rows of the bricks, then the linking rows.
 
-ghost use Rattle.std.specs.Prelude.{◌≡◌, ◌≤◌, ◌*◌, ◌^◌, length, IfSome, IfNone, All, OnSome, ◌-ℤ◌, pos};
-ghost use Rattle.std.specs.Ordering.{int_eq};
+ghost use Rattle.std.specs.Prelude.{◌≡◌, ◌≤◌, ◌*◌, ◌^◌, length, map, nat_eq, unsigned_abs, IfSome, IfNone, All, OnSome, ◌-ℤ◌};
 ghost use Rattle.lattice_theory.specs.Vectors.{sub};
 ghost use Rattle.lattice_theory.specs.Matrices.{product};
 ghost use Rattle.lattice_theory.specs.BasisLimits.{IsNarrow};
-ghost use Rattle.fold_theory.specs.Programs.{IsFeasible, brick_rests, link_rests};
+ghost use Rattle.fold_theory.specs.Programs.{IsFeasible, brick_rests, link_rests, link_misses};
 ghost use Rattle.fold_theory.specs.Breaks.{bound_breaks, row_breaks, over_bricks, first_of, first_break};
 ghost use Rattle.fold_program.specs.Points.{HasPointShape};
 ghost use Rattle.fold_program.specs.Faults.{IsBoundedRow};
@@ -61,7 +60,7 @@ impl Program {
     /// The first brick row that the point misses.
     fn missed_brick_row(&self, p: &Point) -> Option<Broken>
         requires shape { HasPointShape self.now p.now }
-        ensures { result ≡ first_of (over_bricks (λ i b v. row_breaks (Broken.BrickRow i) 1 (brick_rests self.now b v)) 1 self.now.bricks p.now) }
+        ensures { result ≡ first_of (over_bricks (λ i b v. row_breaks (Broken.BrickRow i) 1 (map unsigned_abs (brick_rests self.now b v))) 1 self.now.bricks p.now) }
     {
         for brick in 1..=self.n() {
             let right = self.right_row(brick);
@@ -75,10 +74,10 @@ impl Program {
     /// The first linking row that the point misses.
     fn missed_link_row(&self, p: &Point) -> Option<Broken>
         requires shape { HasPointShape self.now p.now }
-        ensures { result ≡ first_of (row_breaks Broken.LinkRow 1 (link_rests self.now p.now)) }
+        ensures { result ≡ first_of (row_breaks Broken.LinkRow 1 (link_misses self.now (link_rests self.now p.now))) }
     {
         for row in 1..=self.r() {
-            if self.rest(p, row) != 0 {
+            if self.missed(row, self.rest(p, row)) != 0 {
                 return Some(Broken::LinkRow { row });
             }
         }
@@ -113,7 +112,7 @@ fn missed_row_of(brick: u32, matrix: &Matrix, right: &[i64], vector: &[i64]) -> 
     requires width { length vector.now ≤ 32 }
     requires narrow { All IsNarrow matrix.now.rows }
     requires bounded { IsBoundedRow vector.now }
-    ensures { result ≡ first_of (row_breaks (Broken.BrickRow brick) 1 (sub right.now (product matrix.now vector.now))) }
+    ensures { result ≡ first_of (row_breaks (Broken.BrickRow brick) 1 (map unsigned_abs (sub right.now (product matrix.now vector.now)))) }
 {
     for (at, right) in right.iter().enumerate() {
         let row = at as u32 + 1;
@@ -126,7 +125,7 @@ fn missed_row_of(brick: u32, matrix: &Matrix, right: &[i64], vector: &[i64]) -> 
 
 /// Whether a row with this right side and this product is met.
 fn is_met(right: i64, product: i128) -> bool
-    ensures { result ≡ int_eq (right -ℤ product) (pos 0) }
+    ensures { result ≡ nat_eq (unsigned_abs (right -ℤ product)) 0 }
 {
     product == i128::from(right)
 }

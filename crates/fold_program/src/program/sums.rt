@@ -1,26 +1,29 @@
-//! What a point costs, what it leaves of a linking row, and the widest bounds.
+//! What a point costs, what it leaves and misses of the linking rows, and the widest bounds.
 
 ghost use Rattle.std.specs.Prelude.{◌≡◌, ◌≤◌, ◌-◌, ◌^◌, ◌-ℤ◌, ◌≤ℤ◌, Some, length, map, sum_by, slice_get, unsigned_abs};
 ghost use Rattle.std.specs.List.{AllZip};
 ghost use Rattle.lattice_theory.specs.Lists.{greatest, zip_with, sum_zip};
 ghost use Rattle.fold_theory.specs.Costs.{value, magnitude};
-ghost use Rattle.fold_theory.specs.Programs.{AreWithin, cost, link_rests, widest};
+ghost use Rattle.fold_theory.specs.Programs.{AreWithin, cost, dist, link_miss, link_rests, widest};
 ghost use Rattle.fold_program.specs.Points.{HasPointShape};
-ghost use Rattle.fold_program.specs.Places.{OfBrick, OfColumn};
+ghost use Rattle.fold_program.specs.Places.{OfBrick, OfColumn, OfRow};
 ghost use Rattle.fold_program.specs.Bounds.{AreCostsOf, cost_magnitude};
 
 use crate::point::Point;
 use crate::program::Program;
 use convex_costs::BoundCost;
+use fold_theory::Relation;
 use int_vectors::dot;
 
 impl Program {
-    /// The right side of a linking row less the sum over all bricks of that row's product with the point.
+    /// The right side of a linking row less the sum over all bricks of that row's product with the point: at most `2^113` in
+    /// absolute value.
     pub fn rest(&self, p: &Point, row: u32) -> i128
         requires shape { HasPointShape self.now p.now }
         requires from { 1 ≤ row }
         requires to { row ≤ length self.now.link.rows }
-        ensures { slice_get (link_rests self.now p.now) (row - 1) ≡ Some result }
+        ensures rest { slice_get (link_rests self.now p.now) (row - 1) ≡ Some result }
+        ensures small { unsigned_abs result ≤ 2 ^ 113 }
     {
         let coefficients = self.link.row(row);
         let mut rest = i128::from(self.right_link(row));
@@ -28,6 +31,30 @@ impl Program {
             rest -= dot(coefficients, p.brick(brick));
         }
         rest
+    }
+
+    /// What a linking row misses where its right side less its sum is this rest: nothing where it is met, and else what it
+    /// takes to bring its sum to its right side.
+    pub fn missed(&self, row: u32, rest: i128) -> u128
+        requires from { 1 ≤ row }
+        requires to { row ≤ length self.now.link.rows }
+        ensures missed { OfRow self.now row (λ relation. result ≡ dist relation rest) }
+        ensures small { result ≤ unsigned_abs rest }
+    {
+        missed_by(self.relation(row), rest)
+    }
+
+    /// What the point misses of the linking rows, in all: at most `2^117`. It is 0 exactly where each of them is met.
+    pub fn link_residual(&self, p: &Point) -> u128
+        requires shape { HasPointShape self.now p.now }
+        ensures residual { result ≡ link_miss self.now (link_rests self.now p.now) }
+        ensures small { result ≤ 2 ^ 117 }
+    {
+        let mut residual = 0;
+        for row in 1..=self.r() {
+            residual += self.missed(row, self.rest(p, row));
+        }
+        residual
     }
 
     /// The greatest difference of an upper and a lower bound: at most `2^63`.
@@ -74,6 +101,19 @@ impl Program {
         let cols = self.link.cols() as usize;
         let from = (brick as usize - 1) * cols;
         &self.costs[from..from + cols]
+    }
+}
+
+/// How far a row of this relation is from being met, where its right side less its sum is this rest.
+fn missed_by(relation: Relation, rest: i128) -> u128
+    ensures missed { result ≡ dist relation rest }
+    ensures small { result ≤ unsigned_abs rest }
+{
+    match relation {
+        Relation::Equal => rest.unsigned_abs(),
+        Relation::Less if rest < 0 => rest.unsigned_abs(),
+        Relation::Greater if rest > 0 => rest.unsigned_abs(),
+        Relation::Less | Relation::Greater => 0,
     }
 }
 

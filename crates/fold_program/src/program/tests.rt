@@ -1,13 +1,13 @@
 //! A program of two bricks with two columns each, one linking row and one brick row, worked by hand.
 
-ghost use Rattle.std.specs.Prelude.{◌≡◌, pos, All, IfOk, IfSome};
+ghost use Rattle.std.specs.Prelude.{◌≡◌, ◌≤◌, length, pos, All, IfOk, IfSome};
 ghost use Rattle.fold_theory.specs.declared.Cost.TheVariants.{Quadratic};
 ghost use Rattle.lattice_theory.specs.BasisLimits.{IsNarrow};
 ghost use Rattle.convex_costs.specs.Bounds.{AreBounded};
 ghost use Rattle.fold_program.specs.Points.{HasPointShape};
 ghost use Rattle.fold_program.specs.Faults.{parts_value, AreWithinLimits, IsBoundedRow};
 
-use crate::{Broken, Cost, CostFault, FileKind, Parts, Point, Program, ProgramFault};
+use crate::{Broken, Cost, CostFault, FileKind, Parts, Point, Program, ProgramFault, Relation};
 use mat_files::Matrix;
 use std::alloc::{AllocError, Global};
 use std::rt::HostRuntime;
@@ -87,8 +87,30 @@ fn program(alloc: Global) -> Result<Program, Fail> {
     Ok(Program::new(alloc, parts)?)
 }
 
+/// That program, its linking row with this relation.
+fn related(alloc: Global, relation: Relation) -> Result<Program, Fail> {
+    let program = program(alloc)?;
+    let relations = vec![in alloc; relation; program.r() as usize]?;
+    Ok(program.with_relations(relations))
+}
+
+/// The cost of a column at `v`, where that is within the column's bounds.
+fn cost_within(program: &Program, brick: u32, col: u32, v: i64) -> Option<i128>
+    requires from { 1 ≤ brick }
+    requires to { brick ≤ length program.now.bricks }
+    requires left { 1 ≤ col }
+    requires right { col ≤ program.now.link.cols }
+{
+    // a program has a cost for each column
+    prove!(brick <= program.n());
+    let (lower, upper) = (program.lower(brick, col), program.upper(brick, col));
+    if v < lower || upper < v {
+        return None;
+    }
+    Some(program.cost_at(brick, col, v))
+}
+
 /// The point with these entries, brick by brick.
-#[tactic(auto, using(crate::proofs::PointLaws::point_shape))]
 fn point(program: &Program, entries: Vec<i64>) -> Option<Point>
     ensures { IfSome result (HasPointShape program.now) }
 {
@@ -165,6 +187,47 @@ fn the_first_thing_that_a_point_breaks_is_named(rt: HostRuntime) -> Result<(), F
     ] {
         let point = point(&program, entries.to_vec(rt.alloc())?).expect(&rt, "a point");
         assert_eq!(rt; program.broken(&point), broken);
+    }
+    Ok(())
+}
+
+/// The sum of the linking row is 2 there, and its right side is 3.
+#[test]
+fn a_linking_row_is_judged_by_its_relation(rt: HostRuntime) -> Result<(), Fail> {
+    let broken = Some(Broken::LinkRow { row: 1 });
+    for (relation, misses, missed, broken) in [
+        (Relation::Equal, [2, 0, 3], 1, broken),
+        (Relation::Less, [2, 0, 0], 0, None),
+        (Relation::Greater, [0, 0, 3], 1, broken),
+    ] {
+        let program = related(rt.alloc(), relation)?;
+        assert_eq!(rt; program.r(), 1);
+        assert_eq!(rt; program.relation(1), relation);
+        assert_eq!(rt; program.relations(), [relation].as_slice());
+        for (at, rest) in [-2, 0, 3].into_iter().enumerate() {
+            assert_eq!(rt; program.missed(1, rest), misses[at]);
+        }
+        let point = point(&program, [0, 4, 2, 2].to_vec(rt.alloc())?).expect(&rt, "a point");
+        assert_eq!(rt; program.rest(&point, 1), 1);
+        assert_eq!(rt; program.link_residual(&point), missed);
+        assert_eq!(rt; program.broken(&point), broken);
+    }
+    Ok(())
+}
+
+#[test]
+fn each_column_has_a_cost_within_its_bounds(rt: HostRuntime) -> Result<(), Fail> {
+    let program = program(rt.alloc())?;
+    assert_eq!(rt; program.n(), 2);
+    assert_eq!(rt; program.t(), 2);
+    for (brick, col, v, cost) in [
+        (1, 1, 3, Some(9)),
+        (1, 2, 3, Some(0)),
+        (2, 1, 4, Some(16)),
+        (2, 1, 5, None),
+        (1, 2, -1, None),
+    ] {
+        assert_eq!(rt; cost_within(&program, brick, col, v), cost);
     }
     Ok(())
 }

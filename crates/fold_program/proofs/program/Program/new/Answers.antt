@@ -3,11 +3,11 @@ use Rattle.std.proofs.lemmas.Result.{err_from_is_err_and}
 use Rattle.lattice_theory.specs.Vectors.{Vector}
 use Rattle.fold_theory.specs.declared.Cost.{Cost}
 use Rattle.fold_theory.specs.Programs.{IsProgram}
-use Rattle.fold_program.specs.Parts.{program_of}
+use Rattle.fold_program.specs.Parts.{program_of, related}
 use Rattle.fold_program.specs.Faults.{parts_value, IsBoundedRow}
 use Rattle.fold_program.specs.Bounds.{cost_magnitude}
 use Rattle.fold_program.proofs.AcceptLaws.{shaped_from_none}
-use Rattle.fold_program.proofs.PartsLaws.{bounded_flat, lowers_are, uppers_are, few_costs, refused_crossed, is_program_fault, refused_sum, small_sum, accepted, is_program, is_kept}
+use Rattle.fold_program.proofs.PartsLaws.{bounded_flat, lowers_are, uppers_are, few_costs, refused_crossed, is_program_fault, refused_sum, small_sum, accepted, is_program, is_related, is_kept}
 use Rattle.fold_program.proofs.program.Program.new.Goals as goal
 
 pub first_crossed-requires : goal.first_crossed-requires
@@ -74,7 +74,8 @@ invariant_of-result c =
     let shaped = shaped_from_none (parts_value c.args.parts) (sym c.in_default.ensures.first) in
     let bound = rw (c.entries-3.ensures, c.entries-4.ensures) at c.in_ok-costs.ensures.bound in
     let small : min (sum_by cost_magnitude c.in_ok-costs.costs.items) (2 ^ 128 - 1) ≤ 2 ^ 120 = rw (sym c.deref.ensures.value, sym c.total_magnitude.ensures) c.if-total_magnitude-gt-LARGEST.false in
-    is_kept (parts_value c.args.parts) shaped c.in_default.ensures.even c.requires.limits c.in_ok-costs.costs.items bound small
+    is_kept (parts_value c.args.parts) shaped c.in_default.ensures.even c.requires.limits c.in_ok-costs.costs.items bound small c.in_ok-relations.relations.items
+    (omega (arith, c.in_ok-relations.ensures.len, c.rows.ensures))
 
 pub returns-clause-accepted : goal.returns-clause-accepted
 returns-clause-accepted c =
@@ -91,5 +92,6 @@ returns-clause-program c =
     let shaped = shaped_from_none (parts_value c.args.parts) (sym c.in_default.ensures.first) in
     let bound = rw (c.entries-3.ensures, c.entries-4.ensures) at c.in_ok-costs.ensures.bound in
     let program = is_program (parts_value c.args.parts) shaped c.in_default.ensures.even c.in_ok-costs.costs.items bound in
-    subst (λ (costs : List Cost). IsProgram (program_of (record { link = c.args.parts.link; brick = c.args.parts.brick; lower = c.args.parts.lower; upper = c.args.parts.upper; right = c.args.parts.right; costs = costs })))
-    (sym bound.costs_are) program
+    subst (λ (costs : List Cost). IsProgram (related c.in_ok-relations.relations.items (program_of (record { link = c.args.parts.link; brick = c.args.parts.brick; lower = c.args.parts.lower; upper = c.args.parts.upper; right = c.args.parts.right; costs = costs }))))
+    (sym bound.costs_are) (is_related (program_of (parts_value c.args.parts)) c.in_ok-relations.relations.items program
+    (omega (arith, c.in_ok-relations.ensures.len, c.rows.ensures)))

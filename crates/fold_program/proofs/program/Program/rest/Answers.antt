@@ -20,8 +20,8 @@ loop-brick-preserved c =
       small = simp to_z-of_z (omega (arith, ints, c.row-coefficients.ensures.width, c.self.invariant.cols_to));
     }
 
-pub returns-2 : goal.returns-2
-returns-2 c =
+pub returns-2-clause-rest : goal.returns-2-clause-rest
+returns-2-clause-rest c =
     let product : FitsSigned w128 c.dot-rest.result = search rules in
     let difference : FitsSigned w128 (to_z w128 c.loop-brick.rest-bits -ℤ c.dot-rest.result) =
     fits_signed_from_abs w128 _ (omega (arith, ints, c.row-coefficients.ensures.width, c.self.invariant.cols_to)) in
@@ -36,3 +36,10 @@ returns-2 c =
     let value : (c.right_link.result -ℤ total (map (dot c.row-coefficients.result.now) c.args.p.now)) ≡ (to_z w128 c.loop-brick.rest-bits -ℤ c.dot-rest.result) =
     omega (arith, ints, next, end, c.dot-rest.ensures.value, first, from) in
     simp to_z-of_z (is ∙ ap Some value)
+
+pub returns-2-clause-small : goal.returns-2-clause-small
+returns-2-clause-small c =
+    let product : FitsSigned w128 c.dot-rest.result = search rules in
+    let difference : FitsSigned w128 (to_z w128 c.loop-brick.rest-bits -ℤ c.dot-rest.result) =
+    fits_signed_from_abs w128 _ (omega (arith, ints, c.row-coefficients.ensures.width, c.self.invariant.cols_to)) in
+    simp to_z-of_z (omega (arith, ints, c.row-coefficients.ensures.width, c.self.invariant.cols_to, c.n-brick-end.ensures.to))
