@@ -1,10 +1,13 @@
 -- The bricks that rows of bounds, right sides and costs make.
-use Rattle.std.proofs.Common.{◌≡◌, ℕ, zero, suc, ◌+◌, ◌*◌, ◌<◌, List, [], ◌∷◌, length, take, drop, refl, ap, arith, ◌∙◌, Some, slice_get}
+use Rattle.std.proofs.Common.{◌≡◌, ℕ, zero, suc, ◌+◌, ◌*◌, ◌<◌, List, [], ◌∷◌, length, take, drop, refl, ap, arith, ◌∙◌, Some, slice_get, All}
 use Rattle.std.proofs.lemmas.List.{drop-drop}
+use Rattle.std.proofs.lemmas.List.Elements.{All-nil, All-cons, All-head, All-tail}
 use Rattle.lattice_theory.specs.Vectors.{Vector}
 use Rattle.fold_theory.specs.declared.Cost.{Cost}
 use Rattle.fold_theory.specs.Programs.{Brick}
 use Rattle.fold_program.specs.Parts.{bricks_from}
+use Rattle.fold_program.specs.Faults.{IsBoundedRow}
+use Rattle.fold_program.specs.Places.{HasBoundedSides}
 
 -- there are as many as rows of lower bounds, if the upper bounds are as many
 pub length_bricks_from : (t s : ℕ) (lower upper : List Vector) (right : Vector) (costs : List Cost) → length upper ≡ length lower →
@@ -50,3 +53,13 @@ brick_from_at t s (l ∷ lower) (u ∷ upper) right costs (suc i) same inside =
         costs_are = rest.2.costs_are ∙ further t t i costs;
       },
     )
+
+-- their bounds are those of the rows
+pub bricks_bounded : (t s : ℕ) (lower upper : List Vector) (right : Vector) (costs : List Cost) → All IsBoundedRow lower → All IsBoundedRow upper →
+    All HasBoundedSides (bricks_from t s lower upper right costs)
+bricks_bounded t s [] upper right costs low high = All-nil HasBoundedSides
+bricks_bounded t s (l ∷ lower) [] right costs low high = All-nil HasBoundedSides
+bricks_bounded t s (l ∷ lower) (u ∷ upper) right costs low high =
+    All-cons HasBoundedSides (record { lower = l; upper = u; right = take s right; costs = take t costs }) (bricks_from t s lower upper (drop s right) (drop t costs))
+    (All-head IsBoundedRow l lower low, All-head IsBoundedRow u upper high)
+    (bricks_bounded t s lower upper (drop s right) (drop t costs) (All-tail IsBoundedRow l lower low) (All-tail IsBoundedRow u upper high))

@@ -1,12 +1,18 @@
 -- Points, row by row.
-use Rattle.std.proofs.Common.{◌≡◌, ℕ, zero, suc, ◌*◌, IsTrue, All, length, take, drop, refl, ap, arith, sym, subst, length-take}
-use Rattle.std.proofs.lemmas.List.{length-drop}
-use Rattle.std.proofs.lemmas.List.Elements.{All-nil, All-cons, All-take, All-drop}
+use Rattle.std.proofs.Common.{◌≡◌, ℕ, zero, suc, ◌*◌, ◌^◌, ◌≤◌, ℤ, ◌≤ℤ◌, unsigned_abs, true, IsTrue, All, List, [], ◌∷◌, ◌++◌, length, take, drop, refl, ap, arith, sym, ◌∙◌, subst, length-take}
+use Rattle.std.specs.List.{AllZip, AllByRecursion}
+use Rattle.std.proofs.lemmas.Int.{ints}
+use Rattle.std.proofs.lemmas.Bool.Decides.{nat_tests}
+use Rattle.std.proofs.lemmas.List.{length-drop, take-append-drop}
+use Rattle.std.proofs.lemmas.List.Elements.{All-nil, All-cons, All-take, All-drop, recursion_from_All}
 use Rattle.lattice_theory.specs.Vectors.{Vector, is_bounded}
 use Rattle.lattice_theory.specs.Matrices.{rows_of}
-use Rattle.fold_theory.specs.Programs.{Program, Bricks}
+use Rattle.fold_theory.specs.Programs.{Program, Brick, Bricks, AreWithin}
 use Rattle.fold_program.specs.Faults.{IsBoundedRow}
 use Rattle.fold_program.specs.Points.{IsPoint, HasPointShape}
+use Rattle.fold_program.specs.Places.{HasBoundedSides}
+use Rattle.fold_program.proofs.ScanLaws.{flat}
+use Rattle.fold_program.proofs.PartsLaws.{bounded_flat}
 
 -- rows of entries within the limit are within it
 pub bounded_rows : (n cols : ℕ) (entries : Vector) → All (λ a. IsTrue (is_bounded a)) entries → All IsBoundedRow (rows_of n cols entries)
@@ -34,3 +40,50 @@ point_shape p entries x made = subst (HasPointShape p) (sym made.value) (record 
   bricks = length-rows_of (length p.bricks) p.link.cols entries;
   widths = even_rows (length p.bricks) p.link.cols entries made.size;
 })
+
+-- ---- points within the bounds
+
+between_bounded : (l a u : ℤ) → is_bounded l ≡ true → is_bounded u ≡ true → l ≤ℤ a → a ≤ℤ u → is_bounded a ≡ true
+between_bounded l a u low high above below =
+    let from : unsigned_abs l ≤ 2 ^ 62 = small l low in
+    let to : unsigned_abs u ≤ 2 ^ 62 = small u high in
+    large a (omega (arith, ints, from, to, above, below))
+  where
+    small : (x : ℤ) → is_bounded x ≡ true → unsigned_abs x ≤ 2 ^ 62
+    small x h = grind (arith, nat_tests)
+
+    large : (x : ℤ) → unsigned_abs x ≤ 2 ^ 62 → is_bounded x ≡ true
+    large x h = grind (arith, nat_tests)
+
+vector_bounded : (lower v upper : Vector) → AllByRecursion (λ a. IsTrue (is_bounded a)) lower → AllByRecursion (λ a. IsTrue (is_bounded a)) upper →
+    AllZip ◌≤ℤ◌ lower v → AllZip ◌≤ℤ◌ v upper → IsBoundedRow v
+vector_bounded lower [] upper low high above below = All-nil (λ a. IsTrue (is_bounded a))
+vector_bounded [] (a ∷ v) upper low high above below = absurd above
+vector_bounded (l ∷ lower) (a ∷ v) [] low high above below = absurd below
+vector_bounded (l ∷ lower) (a ∷ v) (u ∷ upper) low high above below =
+    All-cons (λ b. IsTrue (is_bounded b)) a v (between_bounded l a u low.0 high.0 above.0 below.0)
+    (vector_bounded lower v upper low.1 high.1 above.1 below.1)
+
+point_bounded : (bs : List Brick) (x : Bricks) → AllByRecursion HasBoundedSides bs → AreWithin bs x → All IsBoundedRow x
+point_bounded [] [] sides within = All-nil IsBoundedRow
+point_bounded [] (v ∷ x) sides within = absurd within
+point_bounded (b ∷ bs) [] sides within = absurd within
+point_bounded (b ∷ bs) (v ∷ x) sides within =
+    let low = recursion_from_All (λ a. IsTrue (is_bounded a)) b.lower sides.0.0 in
+    let high = recursion_from_All (λ a. IsTrue (is_bounded a)) b.upper sides.0.1 in
+    All-cons IsBoundedRow v x (vector_bounded b.lower v b.upper low high within.0.0 within.0.1) (point_bounded bs x sides.1 within.1)
+
+-- the entries of all rows are the entries that they were made from
+flat-rows_of : (n cols : ℕ) (entries : Vector) → length entries ≡ n * cols → flat (rows_of n cols entries) ≡ entries
+flat-rows_of zero cols [] e = refl
+flat-rows_of zero cols (a ∷ entries) e = absurd (omega arith)
+flat-rows_of (suc n) cols entries e =
+    let left : length (drop cols entries) ≡ n * cols = simp length-drop (omega arith) in
+    ap (λ rest. take cols entries ++ rest) (flat-rows_of n cols (drop cols entries) left) ∙ take-append-drop cols entries
+
+-- entries within the bounds of a program are within the limit
+pub entries_bounded : (p : Program) (entries : Vector) → All HasBoundedSides p.bricks → length entries ≡ length p.bricks * p.link.cols →
+    AreWithin p.bricks (rows_of (length p.bricks) p.link.cols entries) → IsBoundedRow entries
+entries_bounded p entries sides size within =
+    let rows = point_bounded p.bricks (rows_of (length p.bricks) p.link.cols entries) (recursion_from_All HasBoundedSides p.bricks sides) within in
+    subst IsBoundedRow (flat-rows_of (length p.bricks) p.link.cols entries size) (bounded_flat (rows_of (length p.bricks) p.link.cols entries) rows)

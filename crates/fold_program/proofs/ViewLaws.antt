@@ -1,16 +1,21 @@
 -- What contracts see of what a program keeps.
-use Rattle.std.proofs.Common.{◌≡◌, ℕ, ℤ, ◌+◌, ◌-◌, ◌*◌, ◌<◌, ◌≤◌, length, take, drop, ap, arith, sym, ◌∙◌, Option, Some, None, IfSome, slice_get, map, subst, List, [], ◌∷◌, zero, suc, refl, flat_map}
+use Rattle.std.proofs.Common.{◌≡◌, ℕ, ℤ, ◌+◌, ◌-◌, ◌*◌, ◌<◌, ◌≤◌, length, take, drop, ap, arith, sym, ◌∙◌, Option, Some, None, IfSome, slice_get, map, subst, List, [], ◌∷◌, zero, suc, refl, flat_map, All}
 use Rattle.std.proofs.lemmas.List.{append-nil, drop-drop}
 use Rattle.std.proofs.Math.Nat.{mul-le-mul_right}
 use Rattle.lattice_theory.specs.Vectors.{Vector}
 use Rattle.fold_theory.specs.Programs.{Program, Brick}
 use Rattle.fold_program.specs.Parts.{all_entries}
+use Rattle.fold_program.specs.Places.{HasBoundedSides}
 use Rattle.fold_program.specs.Kept.{Stored, IsKept, stored_program}
-use Rattle.fold_program.proofs.BrickLaws.{length_bricks_from, brick_from_at, IsBrickOf}
+use Rattle.fold_program.proofs.BrickLaws.{length_bricks_from, bricks_bounded, brick_from_at, IsBrickOf}
 
 pub bricks_are : (p : Stored) (q : Program) → IsKept p → stored_program p ≡ q → length q.bricks ≡ length p.lower.rows
 bricks_are p q kept view =
     sym (ap (λ (v : Program). length v.bricks) view) ∙ length_bricks_from _ _ p.lower.rows p.upper.rows _ _ kept.upper_rows
+
+pub sides_are_bounded : (p : Stored) (q : Program) → IsKept p → stored_program p ≡ q → All HasBoundedSides q.bricks
+sides_are_bounded p q kept view =
+    subst (λ (v : Program). All HasBoundedSides v.bricks) view (bricks_bounded _ _ p.lower.rows p.upper.rows _ _ kept.lower_bounded kept.upper_bounded)
 
 pub links_are : (p : Stored) (q : Program) → IsKept p → stored_program p ≡ q → q.link ≡ p.link
 links_are p q kept view = sym (ap (λ (v : Program). v.link) view)

@@ -3,10 +3,15 @@ use Rattle.std.specs.Prelude.{◌≡◌, ℕ, ◌-◌, ℤ, Some, slice_get}
 use Rattle.fold_theory.specs.declared.Cost.{Cost}
 use Rattle.fold_theory.specs.declared.Relation.{Relation}
 use Rattle.fold_theory.specs.Programs.{Program, Brick}
+use Rattle.fold_program.specs.Faults.{IsBoundedRow}
 
 -- there is a brick of this number, from 1, and this holds of it
 abbrev pub OfBrick : Program → ℕ → (Brick → Type 0) → Type 0
 OfBrick p i P = (b : Brick) × (slice_get p.bricks (i - 1) ≡ Some b) × P b
+
+-- each bound of the brick is at most 2 ^ 62 in absolute value
+abbrev pub HasBoundedSides : Brick → Type 0
+HasBoundedSides b = IsBoundedRow b.lower × IsBoundedRow b.upper
 
 -- there is a column of this number in that brick, and this holds of its lower bound, its upper bound and its cost
 abbrev pub OfColumn : Program → ℕ → ℕ → (ℤ → ℤ → Cost → Type 0) → Type 0

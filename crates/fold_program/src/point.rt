@@ -1,6 +1,8 @@
 //! A point: one vector of whole numbers for each brick of a program.
 
-ghost use Rattle.std.specs.Prelude.{◌≡◌, ◌≤◌, ◌-◌, Some, length, slice_get, All, IfSome, IfNone};
+ghost use Rattle.std.specs.Prelude.{◌≡◌, ◌≤◌, ◌-◌, ◌*◌, Some, length, slice_get, All, IfSome, IfNone, IsSome};
+ghost use Rattle.lattice_theory.specs.Matrices.{rows_of};
+ghost use Rattle.fold_theory.specs.Programs.{AreWithin};
 ghost use Rattle.fold_program.specs.Points.{HasPointShape, IsPoint, IsNoPoint};
 ghost use Rattle.fold_program.specs.Faults.{IsBoundedRow};
 
@@ -28,11 +30,12 @@ impl Model for Point {
 
 impl Point {
     /// The point with these entries, brick by brick: `n·t` of them, each at most `2^62` in absolute value. None
-    /// where their number is another, or one is larger.
+    /// where their number is another, or one is larger; so entries within the bounds of a program make a point of it.
     pub fn new(program: &Program, entries: Vec<i64>) -> Option<Point>
         ensures made { IfSome result (IsPoint program.now entries.items) }
         ensures shape { IfSome result (HasPointShape program.now) }
         ensures refused { IfNone result (IsNoPoint program.now entries.items) }
+        ensures within { length entries.items ≡ length program.now.bricks * program.now.link.cols → AreWithin program.now.bricks (rows_of (length program.now.bricks) program.now.link.cols entries.items) → IsSome result }
     {
         let (rows, cols) = (program.n(), program.t());
         if entries.len() as u64 != u64::from(rows) * u64::from(cols) {

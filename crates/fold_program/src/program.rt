@@ -11,7 +11,7 @@ ghost use Rattle.fold_theory.specs.Programs.{IsProgram};
 ghost use Rattle.fold_program.specs.Faults.{IsBoundedRow};
 ghost use Rattle.fold_program.specs.Parts.{related};
 ghost use Rattle.fold_program.specs.Refusals.{total_magnitude};
-ghost use Rattle.fold_program.specs.Places.{OfBrick};
+ghost use Rattle.fold_program.specs.Places.{OfBrick, HasBoundedSides};
 
 use convex_costs::BoundCost;
 use fold_theory::Relation;
@@ -43,14 +43,16 @@ impl Model for Program {
 }
 
 impl Program {
-    /// How many bricks there are: 1 to 10,000. The parts fit each other, no bounds cross, each cost is convex
-    /// on its bounds, and the magnitudes of all costs add up to at most `2^120`.
+    /// How many bricks there are: 1 to 10,000. The parts fit each other, no bounds cross, each bound is at
+    /// most `2^62` in absolute value, each cost is convex on its bounds, and the magnitudes of all costs add up to at most
+    /// `2^120`.
     pub fn n(&self) -> u32
         ensures bricks { result ≡ length self.now.bricks }
         ensures from { 1 ≤ result }
         ensures to { result ≤ 10000 }
         ensures program { IsProgram self.now }
         ensures magnitude { total_magnitude self.now ≤ 2 ^ 120 }
+        ensures bounded { All HasBoundedSides self.now.bricks }
     {
         self.lower.rows()
     }

@@ -98,7 +98,11 @@ fn one_exchange_has_one_link(rt: HostRuntime) -> Result<(), Fail> {
     assert_eq!(rt; basis.element(0), [1, 1].as_slice());
     let relations = equations(rt.alloc(), &links)?;
     for phase in [Phase::Closed, Phase::Counted] {
-        assert_eq!(rt; complexity(&basis, &links, phase, &relations), 2, "in phase {phase:?}");
+        assert_eq!(rt;
+            complexity(&basis, &links, phase, &relations),
+            2,
+            "in phase {phase:?}"
+        );
     }
     Ok(())
 }
@@ -113,7 +117,11 @@ fn no_vector_of_the_kernel_has_no_link(rt: HostRuntime) -> Result<(), Fail> {
     assert_eq!(rt; basis.len(), 0);
     let relations = equations(rt.alloc(), &links)?;
     for phase in [Phase::Closed, Phase::Counted] {
-        assert_eq!(rt; complexity(&basis, &links, phase, &relations), 1, "in phase {phase:?}");
+        assert_eq!(rt;
+            complexity(&basis, &links, phase, &relations),
+            1,
+            "in phase {phase:?}"
+        );
     }
     let listed = sums(rt.alloc(), &gens, 1, 20000)?;
     assert_eq!(rt; listed.len(), 1);
@@ -168,7 +176,11 @@ fn three_suppliers_have_seven_combinations(rt: HostRuntime) -> Result<(), Fail> 
     assert_eq!(rt; basis.len(), 7);
     let relations = equations(rt.alloc(), &links)?;
     for phase in [Phase::Closed, Phase::Counted] {
-        assert_eq!(rt; complexity(&basis, &links, phase, &relations), 3, "in phase {phase:?}");
+        assert_eq!(rt;
+            complexity(&basis, &links, phase, &relations),
+            3,
+            "in phase {phase:?}"
+        );
     }
     Ok(())
 }

@@ -12,3 +12,9 @@ invariant_of-result c =
 
 pub returns-clause-shape : goal.returns-clause-shape
 returns-clause-shape c = point_shape c.args.program.now c.args.entries.items c.new.result.rows (record { size = search rules; small = search rules; value = search rules })
+
+pub returns-then-len-from-clause-within : goal.returns-then-len-from-clause-within
+returns-then-len-from-clause-within c = ?
+
+pub returns-then-not-all-clause-within : goal.returns-then-not-all-clause-within
+returns-then-not-all-clause-within c = ?
