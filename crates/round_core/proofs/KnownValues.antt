@@ -1,11 +1,13 @@
 -- The definitions at values worked by hand.
-use Rattle.std.proofs.Common.{◌≡◌, true, false, List, [], ◌∷◌, Some, None, refl}
+use Rattle.std.proofs.Common.{lit≤, ◌≡◌, true, false, List, [], ◌∷◌, Some, None, refl}
 use Rattle.round_core.specs.declared.events.Event.{Event}
 use Rattle.round_core.specs.declared.events.Event.TheVariants.{Claim, StoreHigh, StoreLow, LoadBest, LoadHigh, LoadLow, Exchange, SplitSeat, JoinSeat}
 use Rattle.round_core.specs.declared.parts.Fate.TheVariants.{Offered, Beaten}
 use Rattle.round_core.specs.declared.parts.Stand.TheVariants.{Absent, Working, Finished, Joined}
 use Rattle.round_core.specs.Rounds.{Round, first_round, unclaimed, index_beats, high_half, low_half}
 use Rattle.round_core.specs.Steps.{step, steps, is_settled, best_of}
+use Rattle.run_theory.specs.Bests.{IsBestByGains}
+use Rattle.round_core.proofs.Gains.{reached_by_gains}
 
 -- three lengths, of which the last has no gain, and two workers
 abbrev begun : Round
@@ -92,6 +94,11 @@ settled_at_the_end = refl
 
 best_at_the_end : best_of ended ≡ Some 0
 best_at_the_end = refl
+
+-- of equal gains that of the lesser length is the best, as the gains given at the beginning say
+best_by_the_gains : IsBestByGains (Some 4 ∷ Some 4 ∷ None ∷ []) (Some 0)
+best_by_the_gains =
+    reached_by_gains (Some 4 ∷ Some 4 ∷ None ∷ []) 2 events ended (lit≤ tt) all_allowed settled_at_the_end
 
 -- what is offered may not be offered again
 not_offered_twice : step ended (Exchange 1 1 1) ≡ None

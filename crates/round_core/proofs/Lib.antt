@@ -6,4 +6,5 @@ mod Kept
 mod Bounds
 pub mod EachEvent
 pub mod Ends
+pub mod Gains
 mod KnownValues

@@ -51,6 +51,10 @@ stand_at r w = (worker_at r w).stand
 abbrev pub seen_at : Round → ℕ → ℕ
 seen_at r w = (worker_at r w).seen
 
+-- the gains of all lengths
+abbrev pub gains_of : Round → List (Option ℕ)
+gains_of r = map (λ l. l.gain) r.lengths
+
 -- the round as it begins, with the gains of its lengths: worker 0 is at work, and nothing is claimed
 abbrev pub first_round : List (Option ℕ) → ℕ → Round
 first_round gains workers = record {
