@@ -1,15 +1,15 @@
 -- Points, row by row.
-use Rattle.std.proofs.Common.{◌≡◌, ℕ, zero, suc, ◌*◌, ◌^◌, ◌≤◌, ℤ, ◌≤ℤ◌, unsigned_abs, true, IsTrue, All, List, [], ◌∷◌, ◌++◌, length, take, drop, refl, ap, arith, sym, ◌∙◌, subst, length-take}
+use Rattle.std.proofs.Common.{◌≡◌, ℕ, zero, suc, ◌*◌, ◌^◌, ◌≤◌, ℤ, ◌≤ℤ◌, unsigned_abs, true, false, inl, inr, IsTrue, All, List, [], ◌∷◌, ◌++◌, length, take, drop, refl, ap, arith, sym, ◌∙◌, subst, length-take}
 use Rattle.std.specs.List.{AllZip, AllByRecursion}
 use Rattle.std.proofs.lemmas.Int.{ints}
 use Rattle.std.proofs.lemmas.Bool.Decides.{nat_tests}
 use Rattle.std.proofs.lemmas.List.{length-drop, take-append-drop}
-use Rattle.std.proofs.lemmas.List.Elements.{All-nil, All-cons, All-take, All-drop, recursion_from_All}
+use Rattle.std.proofs.lemmas.List.Elements.{All-nil, All-cons, All-take, All-drop, All-contains, recursion_from_All}
 use Rattle.lattice_theory.specs.Vectors.{Vector, is_bounded}
 use Rattle.lattice_theory.specs.Matrices.{rows_of}
 use Rattle.fold_theory.specs.Programs.{Program, Brick, Bricks, AreWithin}
 use Rattle.fold_program.specs.Faults.{IsBoundedRow}
-use Rattle.fold_program.specs.Points.{IsPoint, HasPointShape}
+use Rattle.fold_program.specs.Points.{IsPoint, IsNoPoint, HasPointShape}
 use Rattle.fold_program.specs.Places.{HasBoundedSides}
 use Rattle.fold_program.proofs.ScanLaws.{flat}
 use Rattle.fold_program.proofs.PartsLaws.{bounded_flat}
@@ -87,3 +87,14 @@ pub entries_bounded : (p : Program) (entries : Vector) → All HasBoundedSides p
 entries_bounded p entries sides size within =
     let rows = point_bounded p.bricks (rows_of (length p.bricks) p.link.cols entries) (recursion_from_All HasBoundedSides p.bricks sides) within in
     subst IsBoundedRow (flat-rows_of (length p.bricks) p.link.cols entries size) (bounded_flat (rows_of (length p.bricks) p.link.cols entries) rows)
+
+-- so they make a point
+pub within_is_point : (p : Program) (entries : Vector) → All HasBoundedSides p.bricks → IsNoPoint p entries → length entries ≡ length p.bricks * p.link.cols →
+    AreWithin p.bricks (rows_of (length p.bricks) p.link.cols entries) → ⊥
+within_is_point p entries sides (inl wrong) size within = wrong size
+within_is_point p entries sides (inr (a, there, large)) size within =
+    let small : is_bounded a ≡ true = All-contains (λ b. IsTrue (is_bounded b)) entries a (entries_bounded p entries sides size within) there in
+    differ (sym small ∙ large)
+  where
+    differ : true ≡ false → ⊥
+    differ e = cc
