@@ -1,0 +1,4 @@
+pub mod ScanLaws
+pub mod ElementLaws
+pub mod ClashLaws
+pub mod CriterionLaws

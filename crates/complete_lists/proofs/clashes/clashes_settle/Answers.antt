@@ -1,0 +1,17 @@
+use Rattle.std.proofs.Common.{arith, ◌≡◌, ◌+◌, ◌-◌, ◌∙◌, sym, true, false}
+use Rattle.complete_lists.proofs.ClashLaws.{clashes-at}
+use Rattle.complete_lists.proofs.clashes.clashes_settle.Goals as goal
+
+pub returns-then-not-branch : goal.returns-then-not-branch
+returns-then-not-branch c =
+    let place : c.loop-row.row + 1 - 1 ≡ c.loop-row.row = omega arith in
+    let there = rw place at c.row.ensures.entries in
+    sym (clashes-at c.args.cols c.args.basis.now.rows c.args.basis.now.rows c.loop-row.row c.row.result.now false there
+    (sym c.in_ok-row_settles.ensures ∙ c.if-not-branch.true)) ∙ c.loop-row.invariant
+
+pub loop-row-preserved : goal.loop-row-preserved
+loop-row-preserved c =
+    let place : c.loop-row.row + 1 - 1 ≡ c.loop-row.row = omega arith in
+    let there = rw place at c.row.ensures.entries in
+    sym (clashes-at c.args.cols c.args.basis.now.rows c.args.basis.now.rows c.loop-row.row c.row.result.now true there
+    (sym c.in_ok-row_settles.ensures ∙ c.if-not-branch.false)) ∙ c.loop-row.invariant

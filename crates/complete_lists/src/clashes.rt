@@ -1,0 +1,183 @@
+//! What two rows clash in: the first place where their entries have opposite signs. It is settled where some row, with
+//! either sign, is conformally below their sum up to that place.
+
+ghost use Rattle.std.specs.Prelude.{◌≡◌, ◌≤◌, ◌<◌, ◌+◌, ◌||◌, length, drop, take, All, IfOk, IfSome, not, neg_ℤ};
+ghost use Rattle.std.specs.List.{list_all, list_any};
+ghost use Rattle.lattice_theory.specs.Vectors.{add, is_between};
+ghost use Rattle.lattice_theory.specs.Vectors as vector;
+ghost use Rattle.lattice_theory.specs.BasisLimits.{IsNarrow};
+ghost use Rattle.lattice_laws.proofs.Signs.{agrees};
+ghost use Rattle.criterion_laws.specs.Prefixes.{is_below_in, pair_settles};
+ghost use Rattle.criterion_laws.specs.Prefixes as prefixes;
+
+use int_vectors::conforms;
+use mat_files::Matrix;
+use std::alloc::{AllocError, Global};
+
+/// Whether what each two rows clash in behind their first `cols` entries, the second one with either sign, is settled.
+pub fn clashes_settle(alloc: Global, basis: &Matrix, cols: u32) -> Result<bool, AllocError>
+    requires { All IsNarrow basis.now.rows }
+    ensures { IfOk result (λ b. b ≡ prefixes.clashes_settle cols basis.now.rows basis.now.rows) }
+{
+    for row in 0..basis.rows() {
+        if !row_settles(alloc, basis, cols, basis.row(row + 1), row + 1)? {
+            return Ok(false);
+        }
+    }
+    Ok(true)
+}
+
+/// Whether it is for `f` and each row from a place on, counted from 0.
+fn row_settles(
+    alloc: Global,
+    basis: &Matrix,
+    cols: u32,
+    f: &[i64],
+    from: u32,
+) -> Result<bool, AllocError>
+    requires rows { All IsNarrow basis.now.rows }
+    requires narrow { IsNarrow f.now }
+    requires width { length f.now ≡ basis.now.cols }
+    ensures { IfOk result (λ b. b ≡ list_all (pair_settles cols basis.now.rows f.now) (drop from basis.now.rows)) }
+{
+    let turned = opposite(alloc, f)?;
+    if !signed_settles(alloc, basis, cols, f, from)? {
+        return Ok(false);
+    }
+    signed_settles(alloc, basis, cols, &turned, from)
+}
+
+/// Whether it is for `f` and each row from a place on as it stands.
+fn signed_settles(
+    alloc: Global,
+    basis: &Matrix,
+    cols: u32,
+    f: &[i64],
+    from: u32,
+) -> Result<bool, AllocError>
+    requires rows { All IsNarrow basis.now.rows }
+    requires narrow { IsNarrow f.now }
+    requires width { length f.now ≡ basis.now.cols }
+    ensures { IfOk result (λ b. b ≡ list_all (prefixes.clash_settles cols basis.now.rows f.now) (drop from basis.now.rows)) }
+{
+    for row in from..basis.rows() {
+        if !clash_settles(alloc, basis, cols, f, basis.row(row + 1))? {
+            return Ok(false);
+        }
+    }
+    Ok(true)
+}
+
+/// Whether what the two clash in is settled.
+fn clash_settles(
+    alloc: Global,
+    basis: &Matrix,
+    cols: u32,
+    f: &[i64],
+    g: &[i64],
+) -> Result<bool, AllocError>
+    requires narrow { IsNarrow f.now }
+    requires narrower { IsNarrow g.now }
+    requires width { length f.now ≡ basis.now.cols }
+    requires same { length g.now ≡ basis.now.cols }
+    ensures { IfOk result (λ b. b ≡ prefixes.clash_settles cols basis.now.rows f.now g.now) }
+{
+    let Some(at) = first_clash(f, g) else {
+        return Ok(true);
+    };
+    if at < cols as usize {
+        return Ok(true);
+    }
+    let sum = first_sums(alloc, f, g, at + 1)?;
+    Ok(has_below(basis, &sum))
+}
+
+/// The first place, from 0, where the two have entries of opposite signs.
+fn first_clash(f: &[i64], g: &[i64]) -> Option<usize>
+    requires { length f.now ≡ length g.now }
+    ensures first { result ≡ prefixes.first_clash f.now g.now }
+    ensures inside { IfSome result (λ at. at < length f.now) }
+{
+    for at in 0..f.len() {
+        if clashes(f[at], g[at]) {
+            return Some(at);
+        }
+    }
+    None
+}
+
+/// Whether the two numbers have opposite signs.
+fn clashes(x: i64, y: i64) -> bool
+    ensures { result ≡ not (agrees x y) }
+{
+    x < 0 && y > 0 || x > 0 && y < 0
+}
+
+/// The first entries of the sum.
+fn first_sums(alloc: Global, f: &[i64], g: &[i64], entries: usize) -> Result<Vec<i64>, AllocError>
+    requires narrow { IsNarrow f.now }
+    requires narrower { IsNarrow g.now }
+    requires first { entries ≤ length f.now }
+    requires second { entries ≤ length g.now }
+    ensures { IfOk result (λ sums. sums.items ≡ take entries (add f.now g.now)) }
+{
+    let mut sums = Vec::with_capacity(alloc, entries)?;
+    for at in 0..entries {
+        sums.push(f[at] + g[at])?;
+    }
+    Ok(sums)
+}
+
+/// Whether the first entries of some row, with either sign, are conformally below `z`.
+fn has_below(basis: &Matrix, z: &[i64]) -> bool
+    requires { length z.now ≤ basis.now.cols }
+    ensures { result ≡ list_any (is_below_in (length z.now) z.now) basis.now.rows }
+{
+    for row in 0..basis.rows() {
+        let e = &basis.row(row + 1)[..z.len()];
+        if lies_below(e, z) {
+            return true;
+        }
+    }
+    false
+}
+
+/// Whether `e`, with either sign, is conformally below `z`.
+fn lies_below(e: &[i64], z: &[i64]) -> bool
+    requires { length e.now ≡ length z.now }
+    ensures { result ≡ (vector.conforms e.now z.now || vector.conforms (vector.opposite e.now) z.now) }
+{
+    conforms(e, z) || conforms_turned(e, z)
+}
+
+/// Whether the opposite of `e` is conformally below `z`.
+fn conforms_turned(e: &[i64], z: &[i64]) -> bool
+    requires { length e.now ≡ length z.now }
+    ensures { result ≡ vector.conforms (vector.opposite e.now) z.now }
+{
+    for (x, y) in e.iter().zip(z) {
+        if !lies_opposite(*x, *y) {
+            return false;
+        }
+    }
+    true
+}
+
+/// Whether `-x` lies between 0 and `y`.
+fn lies_opposite(x: i64, y: i64) -> bool
+    ensures { result ≡ is_between (neg_ℤ x) y }
+{
+    x == 0 || (x < 0) != (y < 0) && y != 0 && x.unsigned_abs() <= y.unsigned_abs()
+}
+
+/// The vector with all signs turned.
+fn opposite(alloc: Global, v: &[i64]) -> Result<Vec<i64>, AllocError>
+    requires { IsNarrow v.now }
+    ensures { IfOk result (λ turned. turned.items ≡ vector.opposite v.now) }
+{
+    let mut turned = Vec::with_capacity(alloc, v.len())?;
+    for x in v {
+        turned.push(-*x)?;
+    }
+    Ok(turned)
+}
