@@ -10,20 +10,19 @@ use Rattle.fold_theory.specs.declared.Phase.TheVariants.{Closed, Counted}
 use Rattle.lattice_theory.specs.Lists.{sum_zip}
 use Rattle.lattice_theory.specs.Vectors.{Vector, is_zero, add, sub, scale, zeros}
 use Rattle.lattice_theory.specs.Matrices.{product}
-use Rattle.lattice_laws.proofs.Tests.{and_true, true_or_false}
+use Rattle.lattice_laws.proofs.Tests.{and_true, true_or_false, int_le_of}
 use Rattle.lattice_laws.proofs.Products.{length-zeros, zeros_is}
 use Rattle.fold_theory.specs.Programs.{Program, Brick, Bricks, IsBrick, brick_cost, link_rests, link_miss, phase_cost}
 use Rattle.run_theory.specs.Steps.{moved, AllowsEnd, NoneAugments}
 use Rattle.run_theory.specs.Walks.{walk_change, walk_end, WalkCosts}
 use Rattle.run_theory.specs.Checker.{at_most, starts_at_zero}
-use Rattle.fold_laws.proofs.Agreement.{add_zeros, zeros_add}
-use Rattle.fold_laws.proofs.Bounds.{int_le_of}
-use Rattle.fold_laws.proofs.Terms.{sum_of}
-use Rattle.fold_laws.proofs.Reductions.{AreSized}
-use Rattle.yes_laws.proofs.Combinations.{scale_once, length-sum}
+use Rattle.lattice_laws.proofs.Sums.{add_zeros, zeros_add, sub_sub}
+use Rattle.lattice_laws.specs.VectorLists.{sum_of, AreSized}
+use Rattle.lattice_laws.proofs.Multiples.{scale_once}
+use Rattle.lattice_laws.proofs.VectorLists.{length-sum}
 use Rattle.yes_laws.proofs.PointParts.{forth}
 use Rattle.yes_laws.proofs.Points.{forth-sized, rests_are, image-forth}
-use Rattle.yes_laws.proofs.Least.{sub_sub, walk_end_is}
+use Rattle.yes_laws.proofs.Least.{walk_end_is}
 use Rattle.certificate_laws.proofs.BrickRuns.{one_step, one_length}
 use Rattle.certificate_laws.proofs.BrickSums.{IsStill}
 use Rattle.certificate_laws.proofs.Potentials.{IsLeastWalk, LeastRows, some_rows, first_row, has_cell, cell_at}

@@ -15,12 +15,10 @@ use Rattle.lattice_laws.proofs.Products.{rows-add, rows-zeros, length-zeros}
 use Rattle.run_theory.specs.Certificates.{sum_of_row}
 use Rattle.run_theory.specs.Outcomes.{row_of_sum}
 use Rattle.run_theory.specs.Checker.{is_sum_within, sums_are_closed}
-use Rattle.fold_laws.proofs.Agreement.{add_zeros, length-sub}
-use Rattle.fold_laws.proofs.Residuals.{rows-sub}
-use Rattle.yes_laws.proofs.PieceCounts.{sub_itself}
-use Rattle.yes_laws.proofs.Generators.{IsGenerator, complete_generators}
+use Rattle.lattice_laws.proofs.Sums.{add_zeros, length-sub, sub_itself}
+use Rattle.cover_laws.proofs.Kernels.{IsGenerator, complete_generators}
 use Rattle.certificate_laws.proofs.Passing.{and_of, list_all_of, nat_le_of}
-use Rattle.certificate_laws.proofs.SlackBases.{slack_basis_complete}
+use Rattle.cover_laws.proofs.SlackBases.{slack_basis_complete}
 
 -- ---- listed sums
 

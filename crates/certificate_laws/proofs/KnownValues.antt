@@ -15,8 +15,8 @@ use Rattle.lattice_laws.proofs.Conformal.{opposite-opposite, leads_not_both}
 use Rattle.lattice_laws.proofs.Elements.{element-lifted, minimal-opposite}
 use Rattle.lattice_laws.proofs.SlackBases.{IsSigned}
 use Rattle.lattice_laws.proofs.UnitVectors.{without_rows, first_units, units_elements}
-use Rattle.fold_laws.proofs.CompleteLists.{complete_covers}
-use Rattle.certificate_laws.proofs.SlackBases.{slack_basis_complete}
+use Rattle.cover_laws.proofs.CompleteLists.{complete_covers}
+use Rattle.cover_laws.proofs.SlackBases.{slack_basis_complete}
 
 abbrev pub row : Vector
 row = two (pos 1) (pos 1)

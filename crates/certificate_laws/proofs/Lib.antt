@@ -1,5 +1,4 @@
 pub mod Passing
-pub mod SlackBases
 pub mod BrickRuns
 pub mod StuckBricks
 pub mod BrickSums

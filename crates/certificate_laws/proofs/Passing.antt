@@ -8,7 +8,7 @@ use Rattle.lattice_theory.specs.Matrices.{has_shape}
 use Rattle.lattice_laws.proofs.Members.{contains_head, contains_tail}
 use Rattle.run_theory.specs.declared.Rule.{Rule}
 use Rattle.run_theory.specs.Checker.{first_failing}
-use Rattle.fold_laws.proofs.Reductions.{AreSized}
+use Rattle.lattice_laws.specs.VectorLists.{AreSized}
 
 pub and_of : (a b : Bool) → a ≡ true → b ≡ true → (a && b) ≡ true
 and_of a b h k = ap (λ t. t && b) h ∙ k

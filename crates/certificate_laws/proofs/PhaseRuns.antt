@@ -11,9 +11,9 @@ use Rattle.fold_theory.specs.Programs.{Program, Brick, Bricks, IsBrick, AreWithi
 use Rattle.run_theory.specs.Steps.{Move, moved, AllowsEnd, IsBest, NoneAugments, IsRun}
 use Rattle.run_theory.specs.BrickRuns.{BrickMove}
 use Rattle.run_theory.specs.Outcomes.{AllSettle}
-use Rattle.fold_laws.proofs.Agreement.{add_zeros}
-use Rattle.fold_laws.proofs.Multiples.{rows-scale, scale-zeros, length-scale}
-use Rattle.fold_laws.proofs.Reductions.{AreSized}
+use Rattle.lattice_laws.proofs.Sums.{add_zeros}
+use Rattle.lattice_laws.proofs.Multiples.{rows-scale, scale-zeros, length-scale}
+use Rattle.lattice_laws.specs.VectorLists.{AreSized}
 use Rattle.yes_laws.proofs.Least.{points_sized}
 use Rattle.certificate_laws.proofs.BrickRuns.{run_ends}
 use Rattle.certificate_laws.proofs.BrickSums.{IsStill}

@@ -7,14 +7,14 @@ use Rattle.fold_theory.specs.declared.Phase.{Phase}
 use Rattle.lattice_theory.specs.Lists.{all_zip}
 use Rattle.lattice_theory.specs.Vectors.{Vector, add, scale, same}
 use Rattle.lattice_theory.specs.Matrices.{product}
-use Rattle.lattice_laws.proofs.Tests.{same_true, same_refl}
+use Rattle.lattice_laws.proofs.Tests.{same_true, same_refl, int_le_of}
 use Rattle.lattice_laws.proofs.Members.{contains_cases, contains_head, contains_tail}
 use Rattle.fold_theory.specs.Programs.{Program, Brick, Bricks, IsWithin, is_within}
 use Rattle.run_theory.specs.Steps.{partial_sums}
 use Rattle.run_theory.specs.Walks.{brick_change, end_cost, WalkCosts}
 use Rattle.run_theory.specs.Checker.{at_most, plus, potential_of, layer_holds, layers_hold}
-use Rattle.fold_laws.proofs.Bounds.{is_within_true, int_le_of}
-use Rattle.yes_laws.proofs.Combinations.{scale_once}
+use Rattle.fold_laws.proofs.Bounds.{is_within_true}
+use Rattle.lattice_laws.proofs.Multiples.{scale_once}
 use Rattle.certificate_laws.proofs.Passing.{and_of, list_all_of, all_zip_of}
 use Rattle.certificate_laws.proofs.BrickRuns.{one_step}
 

@@ -4,14 +4,14 @@ use Rattle.std.proofs.Common.{◌≡◌, ℕ, suc, ◌+◌, ◌*◌, ◌<◌, �
 use Rattle.std.proofs.lemmas.Int.{unsigned_abs-mul}
 use Rattle.std.proofs.lemmas.Bool.{cases_lt}
 use Rattle.std.specs.List.{AllByRecursion, AllZip}
-use Rattle.lattice_theory.specs.Lists.{all_zip}
 use Rattle.lattice_theory.specs.Vectors.{Vector, ◌⊑◌, conforms, is_between, sub, scale}
 use Rattle.lattice_laws.proofs.Tests.{and_true, not_both}
 use Rattle.lattice_laws.proofs.Signs.{abs_split}
 use Rattle.fold_theory.specs.Programs.{Bricks}
-use Rattle.fold_laws.proofs.Multiples.{between_times}
-use Rattle.fold_laws.proofs.Reductions.{AreSized}
+use Rattle.lattice_laws.proofs.Multiples.{between_times}
+use Rattle.lattice_laws.specs.VectorLists.{AreSized}
 use Rattle.yes_laws.proofs.PointParts.{back}
+use Rattle.lattice_theory.specs.Lists.{all_zip}
 
 -- ---- numbers
 

@@ -13,8 +13,7 @@ use Rattle.lattice_laws.proofs.Conformal.{norm_of_zero}
 use Rattle.lattice_laws.proofs.Products.{length-rows}
 use Rattle.fold_theory.specs.Programs.{Program, Bricks, IsBrick, AreWithin, link_rests, link_miss, phase_cost}
 use Rattle.run_theory.specs.Steps.{partial_sums, AllowsEnd, IsCandidate, Augments, gain}
-use Rattle.fold_laws.proofs.Terms.{sum_of, weight}
-use Rattle.fold_laws.proofs.Reductions.{AreSized}
+use Rattle.lattice_laws.specs.VectorLists.{sum_of, weight, AreSized}
 use Rattle.yes_laws.proofs.PointParts.{AreParts, forth, back}
 use Rattle.yes_laws.proofs.Points.{way, ArePartsOf, back-sized, forth-sized, parts-sized, image-forth, image-back, miss_parts, way_kept, are_parts, parts-length, parts_within, phase_parts}
 use Rattle.yes_laws.proofs.OnePiece.{IsTight, OnePiece}

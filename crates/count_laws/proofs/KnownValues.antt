@@ -17,8 +17,8 @@ use Rattle.fold_theory.proofs.KnownValues.{brick_with, the_program, point_of, be
 use Rattle.fold_laws.proofs.KnownValues.{one_brick, one_row}
 use Rattle.run_theory.specs.Starts.{IsStart}
 use Rattle.run_theory.specs.Digits.{binary_digits}
-use Rattle.run_laws.proofs.SmallPrograms as small
 use Rattle.count_laws.proofs.FewSteps.{few_steps}
+use Rattle.run_laws.proofs.SmallPrograms as small
 
 -- ---- binary digits
 

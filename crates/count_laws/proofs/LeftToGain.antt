@@ -12,8 +12,7 @@ use Rattle.lattice_laws.proofs.Products.{length-rows}
 use Rattle.fold_theory.specs.Programs.{Program, Bricks, phase_cost}
 use Rattle.run_theory.specs.Steps.{Augments, gain}
 use Rattle.run_theory.specs.Outcomes.{widest_entry, bound_number}
-use Rattle.fold_laws.proofs.Terms.{sum_of, weight}
-use Rattle.fold_laws.proofs.Reductions.{AreSized}
+use Rattle.lattice_laws.specs.VectorLists.{sum_of, weight, AreSized}
 use Rattle.yes_laws.proofs.PointParts.{back}
 use Rattle.yes_laws.proofs.Points.{way, back-sized, parts-sized, image-back, nearer, same_point}
 use Rattle.yes_laws.proofs.OnePiece.{Frame, OnePiece, one_piece}

@@ -4,13 +4,13 @@ use Rattle.std.proofs.lemmas.Int.{ints, unsigned_abs-mul}
 use Rattle.std.proofs.lemmas.Bool.{cases_lt}
 use Rattle.std.proofs.lemmas.List.Concat.{flat_map-cons}
 use Rattle.std.specs.List.{AllZip, flat_map}
-use Rattle.lattice_theory.specs.Lists.{zip_with, greatest}
+use Rattle.lattice_theory.specs.Lists.{greatest, zip_with}
 use Rattle.lattice_theory.specs.Vectors.{Vector, ◌⊑◌, conforms, is_between, norm1, sub, scale}
 use Rattle.lattice_laws.proofs.Tests.{and_true}
 use Rattle.lattice_laws.proofs.Signs.{abs_split}
 use Rattle.lattice_laws.proofs.Conformal.{norm1-cons}
 use Rattle.fold_theory.specs.Programs.{Brick, Bricks, AreWithin}
-use Rattle.fold_laws.proofs.Terms.{weight}
+use Rattle.lattice_laws.specs.VectorLists.{weight}
 use Rattle.yes_laws.proofs.Points.{way}
 use Rattle.count_laws.proofs.Clipped.{times}
 

@@ -8,23 +8,15 @@ use Rattle.lattice_theory.specs.Vectors.{Vector, ◌⊑◌, conforms, is_between
 use Rattle.lattice_theory.specs.Matrices.{product}
 use Rattle.lattice_laws.proofs.Signs.{agrees_same, between_sum}
 use Rattle.lattice_laws.proofs.Conformal.{conforms_trans}
-use Rattle.lattice_laws.proofs.Products.{times_sum}
 use Rattle.fold_theory.specs.Programs.{Program, Bricks}
 use Rattle.run_theory.specs.Steps.{moved}
-use Rattle.fold_laws.proofs.Agreement.{add_zeros}
-use Rattle.fold_laws.proofs.Multiples.{scale_zero, scale-zeros, length-scale, rows-scale, norm-scale}
-use Rattle.fold_laws.proofs.Reductions.{AreSized}
-use Rattle.fold_laws.proofs.Terms.{sum_of, weight}
-use Rattle.yes_laws.proofs.Combinations.{scale_once, scale-below}
+use Rattle.lattice_laws.proofs.Sums.{add_zeros}
+use Rattle.lattice_laws.proofs.Multiples.{scale_zero, scale-zeros, length-scale, rows-scale, norm-scale, scale_once, scale-below, scale-add}
+use Rattle.lattice_laws.specs.VectorLists.{AreSized, sum_of, weight}
 use Rattle.yes_laws.proofs.PointParts.{AreParts, forth, back}
 use Rattle.count_laws.proofs.Clipped.{times}
 
 -- ---- vectors
-
-scale-add : (a : ℤ) (u v : Vector) → scale a (add u v) ≡ add (scale a u) (scale a v)
-scale-add a [] v = refl
-scale-add a (b ∷ u) [] = refl
-scale-add a (b ∷ u) (c ∷ v) = λ i. times_sum a b c i ∷ scale-add a u v i
 
 -- one more time
 entry_next : (a : ℕ) (p k : ℤ) → p +ℤ pos (suc a) *ℤ k ≡ (p +ℤ pos a *ℤ k) +ℤ k

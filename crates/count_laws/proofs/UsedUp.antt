@@ -2,25 +2,25 @@
 -- counts less up to that bound. No entry of a listed sum, and none of its image, is past the widest entry.
 use Rattle.std.proofs.Common.{◌≡◌, ℕ, zero, suc, ◌+◌, ◌*◌, ◌<◌, ◌≤◌, pos, unsigned_abs, Bool, true, false, ◌&&◌, List, [], ◌∷◌, ◌++◌, map, refl, ap, arith, ◌∙◌, Contains, inl, inr, subst}
 use Rattle.std.specs.List.{AllZip, AllByRecursion}
-use Rattle.lattice_theory.specs.Lists.{all_zip, greatest}
+use Rattle.lattice_theory.specs.Lists.{greatest, all_zip}
 use Rattle.lattice_theory.specs.Vectors.{Vector, ◌⊑◌, conforms, add, sub, scale, zeros}
 use Rattle.lattice_theory.specs.Matrices.{product}
 use Rattle.lattice_laws.proofs.Tests.{and_true, true_or_false}
-use Rattle.lattice_laws.proofs.Members.{contains_cases}
 use Rattle.lattice_laws.proofs.Conformal.{norm_below}
 use Rattle.lattice_laws.proofs.Products.{length-zeros}
 use Rattle.fold_theory.specs.Programs.{Program, Bricks}
 use Rattle.run_theory.specs.Steps.{partial_sums}
 use Rattle.run_theory.specs.Walks.{walk_end}
 use Rattle.run_theory.specs.Outcomes.{widest_entry}
-use Rattle.fold_laws.proofs.Agreement.{sub_swap, zeros_add}
-use Rattle.fold_laws.proofs.Terms.{sum_of, weight}
-use Rattle.fold_laws.proofs.Reductions.{AreSized}
-use Rattle.yes_laws.proofs.Combinations.{scale_once, length-sum}
+use Rattle.lattice_laws.proofs.Sums.{sub_swap, zeros_add}
+use Rattle.lattice_laws.specs.VectorLists.{sum_of, weight, AreSized}
+use Rattle.lattice_laws.proofs.Multiples.{scale_once}
+use Rattle.lattice_laws.proofs.VectorLists.{length-sum}
 use Rattle.yes_laws.proofs.PointParts.{back}
 use Rattle.yes_laws.proofs.Least.{walk_end_is}
 use Rattle.count_laws.proofs.Clipped.{IsNarrow, clipped, clipped_no_more, clipped_less, times, all_clipped, all_no_more, all_less, all_below, all_below_test}
 use Rattle.count_laws.proofs.Times.{times_once, weight-times}
+use Rattle.lattice_laws.proofs.Members.{at_most_greatest}
 
 -- ---- the greatest number that passes a test
 
@@ -39,13 +39,6 @@ greatest_fit f (suc n) once over = elim (true_or_false (f (suc n))) [
 
 -- ---- the widest entry of the listed sums
 
-greatest_member : (f : Vector → ℕ) (zs : List Vector) (w : Vector) → Contains zs w → f w ≤ greatest (map f zs)
-greatest_member f [] w (k, low, e) = absurd (omega arith)
-greatest_member f (z ∷ zs) w c = elim (contains_cases z zs w c) [
-  | inl e ↦ omega (arith, ap f e)
-  | inr d ↦ omega (arith, greatest_member f zs w d)
-]
-
 narrow_of : (most : ℕ) (u v : Vector) → greatest (map unsigned_abs (u ++ v)) ≤ most → IsNarrow most u × IsNarrow most v
 narrow_of most [] [] low = (tt, tt)
 narrow_of most [] (b ∷ v) low = (tt, (omega (arith, low), (narrow_of most [] v (omega (arith, low))).1))
@@ -57,7 +50,7 @@ module _ (p : Program) (zs : List Vector) where
       IsNarrow (widest_entry p zs) w × IsNarrow (widest_entry p zs) (product p.link w)
   listed_narrow w c =
       narrow_of (widest_entry p zs) w (product p.link w)
-      (greatest_member (λ w. greatest (map unsigned_abs (w ++ product p.link w))) zs w c)
+      (at_most_greatest (λ w. greatest (map unsigned_abs (w ++ product p.link w))) zs w c)
 
   pub moves_narrow : (h : Bricks) → AllByRecursion (Contains zs) h → AllByRecursion (IsNarrow (widest_entry p zs)) h
   moves_narrow [] all = tt

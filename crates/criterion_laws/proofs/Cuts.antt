@@ -9,15 +9,14 @@ use Rattle.lattice_theory.specs.Vectors.{Vector, ◌⊑◌, conforms, is_zero, n
 use Rattle.lattice_theory.specs.Matrices.{Matrix, element, product, unit_vector}
 use Rattle.lattice_theory.specs.Lattices.{InLattice}
 use Rattle.lattice_laws.proofs.Tests.{and_true}
-use Rattle.lattice_laws.proofs.Members.{contains_cases, contains_head, contains_tail}
+use Rattle.lattice_laws.proofs.Members.{contains_cases, contains_head, contains_tail, list_all_at}
 use Rattle.lattice_laws.proofs.Signs.{agrees}
 use Rattle.lattice_laws.proofs.Conformal.{agree, nonzero_by_take, opposite-opposite, opposite_nonzero, opposite-take, take-add}
 use Rattle.lattice_laws.proofs.Elements.{width, with_rows, width-with_rows, cut_in, cut_nonzero, closed_opposite}
 use Rattle.lattice_laws.proofs.SlackBases.{IsSigned, IsReducible, Covers}
 use Rattle.lattice_laws.proofs.UnitVectors.{without_rows, length-unit, first_units, units_cover}
 use Rattle.lattice_laws.proofs.Completion.{counts, CoversCut, Settles, pairs_reduce, completed}
-use Rattle.fold_laws.specs.Elements.{IsNonzeroElement}
-use Rattle.fold_laws.proofs.CompleteLists.{list_all_at}
+use Rattle.cover_laws.specs.Elements.{IsNonzeroElement}
 use Rattle.criterion_laws.specs.Prefixes.{is_below_in, clash_settles, pair_settles, clashes_settle}
 use Rattle.criterion_laws.proofs.Tests.{list_any_gives, nat_lt_true, or_cases}
 use Rattle.criterion_laws.proofs.Units.{units_have}

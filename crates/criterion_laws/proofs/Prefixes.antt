@@ -9,12 +9,12 @@ use Rattle.lattice_theory.specs.Vectors.{Vector, is_listed, is_rising, leads_pos
 use Rattle.lattice_theory.specs.Matrices.{Matrix, product, element, unit_vector}
 use Rattle.lattice_theory.specs.Lattices.{InLattice, is_complete_for, is_signed_element, reduces_to_zero}
 use Rattle.lattice_laws.proofs.Tests.{and_true, same_true}
-use Rattle.lattice_laws.proofs.Members.{contains_cases, contains_head, contains_tail}
+use Rattle.lattice_laws.proofs.Members.{contains_cases, contains_head, contains_tail, list_all_at}
 use Rattle.lattice_laws.proofs.Conformal.{leads_nonzero}
 use Rattle.lattice_laws.proofs.Elements.{element_in, first_nonzero, closed_add, closed_sub}
 use Rattle.lattice_laws.proofs.UnitVectors.{length-unit}
-use Rattle.fold_laws.specs.Elements.{IsNonzeroElement}
-use Rattle.fold_laws.proofs.CompleteLists.{list_all_at, complete_covers}
+use Rattle.cover_laws.specs.Elements.{IsNonzeroElement}
+use Rattle.cover_laws.proofs.CompleteLists.{complete_covers}
 use Rattle.criterion_laws.specs.Prefixes.{clashes_settle, is_complete_by_prefixes}
 use Rattle.criterion_laws.proofs.Tests.{and_of, list_all_of, listed_member, member_listed}
 use Rattle.criterion_laws.proofs.Reductions.{IsCovering, covering_reduces}

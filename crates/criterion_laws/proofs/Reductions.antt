@@ -13,8 +13,8 @@ use Rattle.lattice_laws.proofs.Conformal.{norm_none, norm_some, norm_split, nonz
 use Rattle.lattice_laws.proofs.Products.{rows-zeros, length-zeros, zeros-append}
 use Rattle.lattice_laws.proofs.Elements.{element_in, closed_add, closed_sub, closed_opposite}
 use Rattle.lattice_laws.proofs.SlackBases.{IsSigned, Covers}
-use Rattle.fold_laws.specs.Elements.{IsNonzeroElement}
-use Rattle.fold_laws.proofs.Multiples.{greatest_below, scale_zero, scale_suc, norm-scale}
+use Rattle.cover_laws.specs.Elements.{IsNonzeroElement}
+use Rattle.lattice_laws.proofs.Multiples.{greatest_below, scale_zero, scale_suc, norm-scale}
 
 -- ---- the greatest multiple is at least 1
 

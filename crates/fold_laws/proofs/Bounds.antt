@@ -3,19 +3,13 @@ use Rattle.std.proofs.Common.{◌≡◌, ℤ, ◌+ℤ◌, ◌-ℤ◌, ◌≤ℤ�
 use Rattle.std.proofs.lemmas.Int.{ints}
 use Rattle.std.proofs.lemmas.List.Elements.{length_all_zip}
 use Rattle.std.specs.List.{AllZip}
-use Rattle.lattice_theory.specs.Lists.{all_zip}
 use Rattle.lattice_theory.specs.Vectors.{Vector, ◌⊑◌, conforms, is_between, add, sub}
-use Rattle.lattice_laws.proofs.Tests.{and_true}
+use Rattle.lattice_laws.proofs.Tests.{and_true, int_le_of, int_le_true}
 use Rattle.lattice_laws.proofs.Signs.{part_of, one_zero}
 use Rattle.fold_theory.specs.Programs.{Brick, IsWithin, is_within}
+use Rattle.lattice_theory.specs.Lists.{all_zip}
 
 -- ---- the test
-
-pub int_le_true : (a b : ℤ) → int_le a b ≡ true → a ≤ℤ b
-int_le_true a b h = grind (arith, ints)
-
-pub int_le_of : (a b : ℤ) → a ≤ℤ b → int_le a b ≡ true
-int_le_of a b h = grind (arith, ints)
 
 all_le_true : (u v : Vector) → all_zip int_le u v ≡ true → AllZip ◌≤ℤ◌ u v
 all_le_true [] [] h = tt

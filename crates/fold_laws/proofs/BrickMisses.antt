@@ -1,25 +1,24 @@
 -- A certificate on one brick that breaks no rule shows what it claims.
-use Rattle.std.proofs.Common.{◌≡◌, ℕ, zero, suc, ◌+◌, ◌-◌, ◌<◌, ◌≤◌, nat_eq, nat_lt, ◌-ℤ◌, Bool, true, false, ◌&&◌, cond, List, [], ◌∷◌, length, Option, Some, None, slice_get, refl, ap, arith, sym, ◌∙◌, subst}
+use Rattle.std.proofs.Common.{◌≡◌, ℕ, zero, suc, ◌+◌, ◌-◌, ◌<◌, ◌≤◌, nat_eq, nat_lt, Bool, true, false, ◌&&◌, cond, List, [], ◌∷◌, length, Option, Some, None, slice_get, refl, ap, arith, sym, ◌∙◌, subst}
 use Rattle.std.specs.List.{AllZip, AllByRecursion}
-use Rattle.std.proofs.lemmas.Int.{ints}
 use Rattle.std.proofs.lemmas.Bool.Decides.{nat_tests}
 use Rattle.std.proofs.lemmas.Option.{slice_get_within, get_or_from_slice_get}
 use Rattle.std.proofs.lemmas.List.Elements.{All-contains}
 use Rattle.run_theory.specs.declared.Rule.{Rule}
 use Rattle.run_theory.specs.declared.Rule.TheVariants.{B1}
 use Rattle.run_theory.specs.declared.Claim.{Claim}
-use Rattle.run_theory.specs.declared.Claim.TheVariants as claim
 use Rattle.fold_theory.specs.declared.Verdict.TheVariants.{InfeasibleBrick}
 use Rattle.lattice_theory.specs.Vectors.{Vector, norm1, sub}
 use Rattle.lattice_theory.specs.Matrices.{product, has_shape}
 use Rattle.lattice_laws.proofs.Tests.{and_true}
-use Rattle.lattice_laws.proofs.Conformal.{norm1-cons}
 use Rattle.fold_theory.specs.Programs.{Program, Brick, Bricks, IsBrick, IsProgram, IsWithin, is_within, brick_residual}
 use Rattle.run_theory.specs.Certificates.{Certificate}
 use Rattle.run_theory.specs.Checker.{brick_rules, first_failing, claimed_verdict, Accept}
 use Rattle.fold_theory.specs.Verdicts.{IsInfeasible, Holds}
 use Rattle.fold_laws.proofs.Bounds.{is_within_true}
 use Rattle.fold_laws.proofs.BrickSteps.{IsStuck, least_residual}
+use Rattle.lattice_laws.proofs.Sums.{no_rest}
+use Rattle.run_theory.specs.declared.Claim.TheVariants as claim
 
 -- ---- the rules
 
@@ -79,11 +78,6 @@ met_at p (a ∷ bs) [] place b there within meets = absurd within
 met_at p (a ∷ bs) (v ∷ x) zero b there within meets =
     let same : a ≡ b = cc in subst (Met p) same (record { vector = v; within = within.0; meets = meets.0 })
 met_at p (a ∷ bs) (v ∷ x) (suc place) b there within meets = met_at p bs x place b there within.1 meets.1
-
--- nothing is missed where the rows are met
-pub no_rest : (v : Vector) → norm1 (sub v v) ≡ 0
-no_rest [] = refl
-no_rest (a ∷ v) = omega (arith, ints, norm1-cons (a -ℤ a) (sub v v), no_rest v)
 
 -- where each vector within the brick's bounds misses its rows, no point is feasible
 pub infeasible : (p : Program) (place : ℕ) (b : Brick) (residual : ℕ) → slice_get p.bricks place ≡ Some b →

@@ -9,8 +9,8 @@ use Rattle.lattice_laws.proofs.Members.{contains_cases}
 use Rattle.lattice_laws.proofs.Conformal.{length_below, norm_split, norm_some, opposite-opposite, sub-opposite}
 use Rattle.fold_theory.specs.Programs.{Program, Brick, IsWithin, is_within, brick_residual}
 use Rattle.run_theory.specs.Checker.{no_step_helps}
-use Rattle.fold_laws.proofs.Agreement.{length-sub, sub_swap, same_vector}
-use Rattle.fold_laws.proofs.Parts.{Part, part_of_complete}
+use Rattle.lattice_laws.proofs.Sums.{length-sub, sub_swap, same_vector}
+use Rattle.cover_laws.proofs.Parts.{Part, part_of_complete}
 use Rattle.fold_laws.proofs.Residuals.{brick_residual_parts}
 use Rattle.fold_laws.proofs.Bounds.{is_within_of, length-within, within_parts}
 

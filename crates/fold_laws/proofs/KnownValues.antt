@@ -5,8 +5,7 @@ use Rattle.std.proofs.lemmas.Int.{ints}
 use Rattle.std.proofs.lemmas.List.Elements.{All-from_recursion}
 use Rattle.fold_theory.specs.declared.Verdict.TheVariants.{InfeasibleBrick}
 use Rattle.lattice_theory.specs.Vectors.{Vector}
-use Rattle.lattice_theory.specs.Matrices.{Matrix, HasShape}
-use Rattle.lattice_theory.proofs.KnownValues.{minus, three}
+use Rattle.lattice_theory.specs.Matrices.{HasShape}
 use Rattle.fold_theory.specs.Programs.{Program, IsBrick, IsProgram}
 use Rattle.fold_theory.specs.Costs.{value, IsConvexOn}
 use Rattle.run_theory.specs.Certificates.{Certificate}
@@ -14,7 +13,6 @@ use Rattle.run_theory.specs.Checker.{Accept, claimed_verdict}
 use Rattle.fold_theory.specs.Verdicts.{Holds}
 use Rattle.fold_theory.proofs.KnownValues.{square, free, brick_with, program_with}
 use Rattle.run_theory.proofs.KnownValues.{brick_certificate}
-use Rattle.fold_laws.specs.Elements.{IsNonzeroElement}
 use Rattle.fold_laws.proofs.BrickMisses.{accepted_holds}
 
 abbrev the_program : Program
@@ -75,18 +73,3 @@ it_is_a_program = record {
 -- all premises of the law are met, and it says that brick 1 misses its row by 1 at least
 pub it_holds : Holds the_program (InfeasibleBrick 1 1)
 it_holds = accepted_holds the_program the_certificate 1 it_is_a_program refl it_is_accepted
-
--- ---- members
-
--- the lattice of the matrix (1 1)
-abbrev pair : Matrix
-pair = record { cols = 2; rows = (pos 1 ∷ pos 1 ∷ []) ∷ [] }
-
-pub opposite_entries : IsNonzeroElement pair (three (pos 1) (minus 1) (pos 0))
-opposite_entries = record { member = record { size = refl; image = refl }; nonzero = refl }
-
-pub zero_is_none : IsNonzeroElement pair (three (pos 0) (pos 0) (pos 0)) → ⊥
-zero_is_none h = absurd (cc (h.nonzero))
-
-pub wrong_image_is_none : IsNonzeroElement pair (three (pos 1) (minus 1) (pos 1)) → ⊥
-wrong_image_is_none h = absurd (cc (h.member.image))

@@ -1,10 +1,3 @@
-pub mod Agreement
-pub mod Multiples
-pub mod Terms
-pub mod ConformalSums
-pub mod Reductions
-pub mod CompleteLists
-pub mod Parts
 pub mod Residuals
 pub mod LinkMisses
 pub mod Bounds

@@ -7,11 +7,11 @@ use Rattle.std.specs.Ordering.{int_eq}
 use borrow.Author.Differences.{up, down}
 use Rattle.fold_theory.specs.declared.Relation.{Relation}
 use Rattle.fold_theory.specs.declared.Relation.TheVariants.{Equal, Less, Greater}
-use Rattle.lattice_theory.specs.Lists.{zip_with}
 use Rattle.lattice_theory.specs.Vectors.{Vector, ◌⊑◌, conforms, is_between, add, sub, opposite}
 use Rattle.lattice_laws.proofs.Tests.{and_true, int_eq_true, int_eq_refl}
 use Rattle.lattice_laws.proofs.Signs.{part_of, one_zero, abs_parts}
 use Rattle.fold_theory.specs.Programs.{dist, keeps_row, keeps_equations}
+use Rattle.lattice_theory.specs.Lists.{zip_with}
 
 -- ---- one row
 

@@ -1,13 +1,13 @@
 -- Two parts of a distance: with a part v of the way from x to y, the two points x + v and y - v together miss their
 -- aim by no more than x and y do. So for numbers, for vectors, and for the rows of a brick.
-use Rattle.std.proofs.Common.{◌≡◌, ◌+◌, ◌≤◌, ℤ, ◌+ℤ◌, ◌-ℤ◌, unsigned_abs, true, List, [], ◌∷◌, length, map, ap, arith, sym, ◌∙◌, subst}
+use Rattle.std.proofs.Common.{◌≡◌, ◌+◌, ◌≤◌, ℤ, ◌+ℤ◌, ◌-ℤ◌, unsigned_abs, true, [], ◌∷◌, length, ap, arith, sym, ◌∙◌, subst}
 use Rattle.std.proofs.lemmas.Int.{ints}
-use Rattle.lattice_theory.specs.Vectors.{Vector, ◌⊑◌, conforms, is_between, norm1, add, sub, opposite, dot}
+use Rattle.lattice_theory.specs.Vectors.{Vector, ◌⊑◌, conforms, is_between, norm1, add, sub}
 use Rattle.lattice_theory.specs.Matrices.{product}
 use Rattle.lattice_laws.proofs.Tests.{and_true}
 use Rattle.lattice_laws.proofs.Signs.{part_of, one_zero, abs_parts}
-use Rattle.lattice_laws.proofs.Conformal.{norm1-cons, sub-opposite, length-opposite}
-use Rattle.lattice_laws.proofs.Products.{rows-add, rows-opposite, length-rows}
+use Rattle.lattice_laws.proofs.Conformal.{norm1-cons}
+use Rattle.lattice_laws.proofs.Products.{rows-add, length-rows, rows-sub}
 use Rattle.fold_theory.specs.Programs.{Program, Brick, brick_residual}
 
 -- two parts of the distance of two numbers
@@ -48,15 +48,6 @@ norm_parts (r ∷ rs) (x ∷ xs) (y ∷ ys) (v ∷ vs) h ex ey =
       distance_parts r x y v p.0,
       norm_parts rs xs ys vs p.1 (omega arith) (omega arith),
     )
-
--- products are linear
-pub rows-sub : (rows : List Vector) (u v : Vector) → length u ≡ length v →
-    map (λ row. dot row (sub u v)) rows ≡ sub (map (λ row. dot row u) rows) (map (λ row. dot row v) rows)
-rows-sub rows u v size =
-    ap (λ w. map (λ row. dot row w) rows) (sub-opposite u v)
-    ∙ rows-add rows u (opposite v) (size ∙ sym (length-opposite v))
-    ∙ ap (add (map (λ row. dot row u) rows)) (rows-opposite rows v)
-    ∙ sym (sub-opposite (map (λ row. dot row u) rows) (map (λ row. dot row v) rows))
 
 -- two parts of a brick's residual
 pub brick_residual_parts : (p : Program) (b : Brick) (x y v : Vector) → length b.right ≡ length p.brick.rows →

@@ -1,5 +1,5 @@
 -- Vectors under the conformal order: an order, what is left over a vector below, norms and opposites.
-use Rattle.std.proofs.Common.{◌≡◌, ℕ, zero, suc, ◌+◌, ◌<◌, ◌≤◌, ℤ, pos, negsuc, ◌+ℤ◌, ◌-ℤ◌, neg_ℤ, unsigned_abs, Bool, true, false, ◌&&◌, [], ◌∷◌, ◌++◌, length, take, drop, refl, ap, arith, sym, ◌∙◌, ◌⊎◌, inl, inr, subst, get_or}
+use Rattle.std.proofs.Common.{◌≡◌, ℕ, zero, suc, ◌+◌, ◌<◌, ◌≤◌, ℤ, pos, negsuc, ◌+ℤ◌, ◌-ℤ◌, neg_ℤ, unsigned_abs, Bool, true, false, ◌&&◌, ◌∷◌, ◌++◌, length, take, drop, refl, ap, arith, sym, ◌∙◌, ◌⊎◌, inl, inr, subst, get_or, []}
 use Rattle.std.proofs.lemmas.List.{take-append-drop, take_all, take_more}
 use Rattle.std.proofs.lemmas.Int.{ints}
 use Rattle.std.proofs.lemmas.Bool.Decides.{nat_tests}
@@ -386,3 +386,21 @@ conforms_by_last n u v e f h k =
     let one : (get_or u n (pos 0) ∷ []) ⊑ (get_or v n (pos 0) ∷ []) = ap (λ t. t && true) k in
     subst (λ w. w ⊑ v) (sym (last_apart n u e))
     (subst (λ w. (take n u ++ get_or u n (pos 0) ∷ []) ⊑ w) (sym (last_apart n v f)) (conforms-append (take n u) (take n v) (get_or u n (pos 0) ∷ []) (get_or v n (pos 0) ∷ []) h one))
+
+-- ---- the entries behind the first ones
+
+-- the entries behind the first ones, of a vector below
+pub conforms-drop : (n : ℕ) (u v : Vector) → u ⊑ v → drop n u ⊑ drop n v
+conforms-drop zero u v h = h
+conforms-drop (suc n) [] [] h = refl
+conforms-drop (suc n) [] (b ∷ v) h = absurd (cc)
+conforms-drop (suc n) (a ∷ u) [] h = absurd (cc)
+conforms-drop (suc n) (a ∷ u) (b ∷ v) h = conforms-drop n u v (and_true (is_between a b) (conforms u v) h).1
+
+pub opposite-drop : (n : ℕ) (v : Vector) → drop n (opposite v) ≡ opposite (drop n v)
+opposite-drop zero v = refl
+opposite-drop (suc n) [] = refl
+opposite-drop (suc n) (a ∷ v) = opposite-drop n v
+
+pub zero-opposite : (v : Vector) → is_zero v ≡ true → is_zero (opposite v) ≡ true
+zero-opposite v none = norm_none (opposite v) (omega (arith, norm-opposite v, norm_of_zero v none))

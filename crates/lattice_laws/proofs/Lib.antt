@@ -3,6 +3,10 @@ pub mod Members
 pub mod Signs
 pub mod Conformal
 pub mod Products
+pub mod Sums
+pub mod Agreement
+pub mod VectorLists
+pub mod Multiples
 pub mod Elements
 pub mod Rising
 pub mod SlackBases

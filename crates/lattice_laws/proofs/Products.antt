@@ -1,11 +1,12 @@
 -- Products of rows and vectors are linear in the vector.
-use Rattle.std.proofs.Common.{◌≡◌, ℕ, zero, suc, ◌+◌, ℤ, pos, negsuc, ◌+ℤ◌, ◌*ℤ◌, neg_ℤ, true, List, [], ◌∷◌, ◌++◌, length, map, refl, ap, arith, ◌∙◌}
+use Rattle.std.proofs.Common.{sym, ◌≡◌, ℕ, zero, suc, ◌+◌, ℤ, pos, negsuc, ◌+ℤ◌, ◌*ℤ◌, neg_ℤ, true, List, ◌∷◌, ◌++◌, length, map, refl, ap, arith, ◌∙◌, []}
 use Rattle.std.proofs.lemmas.Int.{ints}
 use Rattle.std.proofs.Math.IntN.{zero-*ℤ, *ℤ-zero, suc_ℤ-*ℤ, pred_ℤ-*ℤ, +ℤ_invr}
 use Rattle.std.proofs.lemmas.List.{length-replicate}
 use Rattle.std.specs.Ordering.{int_eq}
-use Rattle.lattice_theory.specs.Vectors.{Vector, add, opposite, zeros, dot, is_zero}
+use Rattle.lattice_theory.specs.Vectors.{Vector, add, opposite, zeros, dot, is_zero, sub}
 use Rattle.lattice_laws.proofs.Tests.{and_true, int_eq_true}
+use Rattle.lattice_laws.proofs.Conformal.{sub-opposite, length-opposite}
 
 pub times_sum : (a b c : ℤ) → a *ℤ (b +ℤ c) ≡ a *ℤ b +ℤ a *ℤ c
 times_sum (pos zero) b c = omega (arith, ints, zero-*ℤ (b +ℤ c), zero-*ℤ b, zero-*ℤ c)
@@ -57,6 +58,15 @@ rows-zeros (row ∷ rows) n = λ i. dot-zeros row n i ∷ rows-zeros rows n i
 pub length-rows : (rows : List Vector) (v : Vector) → length (map (λ row. dot row v) rows) ≡ length rows
 length-rows [] v = refl
 length-rows (row ∷ rows) v = ap suc (length-rows rows v)
+
+-- products are linear
+pub rows-sub : (rows : List Vector) (u v : Vector) → length u ≡ length v →
+    map (λ row. dot row (sub u v)) rows ≡ sub (map (λ row. dot row u) rows) (map (λ row. dot row v) rows)
+rows-sub rows u v size =
+    ap (λ w. map (λ row. dot row w) rows) (sub-opposite u v)
+    ∙ rows-add rows u (opposite v) (size ∙ sym (length-opposite v))
+    ∙ ap (add (map (λ row. dot row u) rows)) (rows-opposite rows v)
+    ∙ sym (sub-opposite (map (λ row. dot row u) rows) (map (λ row. dot row v) rows))
 
 -- ---- vectors in two parts
 

@@ -5,6 +5,7 @@ use Rattle.std.proofs.Math.IntN.{*ℤ_comm}
 use Rattle.std.proofs.lemmas.Bool.Decides.{nat_tests}
 use borrow.Author.Differences.{up, down}
 use Rattle.lattice_theory.specs.Vectors.{is_between}
+use Rattle.lattice_laws.proofs.Tests.{not_both}
 
 -- ---- the order
 
@@ -128,3 +129,42 @@ clash_some (pos (suc a)) (negsuc b) h = grind (arith, nat_tests, ints)
 clash_some (negsuc a) (pos zero) h = absurd (omega (arith, h))
 clash_some (negsuc a) (pos (suc b)) h = grind (arith, nat_tests, ints)
 clash_some (negsuc a) (negsuc b) h = absurd (omega (arith, h))
+
+-- ---- parts of sums
+
+pub agrees_zero : (x : ℤ) → agrees x (pos 0) ≡ true
+agrees_zero x = grind (arith, nat_tests, ints)
+
+pub abs_clash : (x y : ℤ) → agrees x y ≡ false → unsigned_abs (x +ℤ y) < unsigned_abs x + unsigned_abs y
+abs_clash x y h = grind (arith, nat_tests, ints)
+
+pub between_of : (a b : ℤ) → IsPart a b → is_between a b ≡ true
+between_of (pos a) (pos b) p = grind (arith, nat_tests, ints, p.ups)
+between_of (pos zero) (negsuc b) p = grind (arith, nat_tests, ints)
+between_of (pos (suc a)) (negsuc b) p = absurd (omega (arith, p.ups))
+between_of (negsuc a) (pos b) p = absurd (omega (arith, p.downs))
+between_of (negsuc a) (negsuc b) p = grind (arith, nat_tests, ints, p.downs)
+
+pub no_clash : (a b : ℤ) → agrees a b ≡ true → clash a b ≡ 0
+no_clash a b h = by (clash a b) refl
+  where
+    by : (n : ℕ) → clash a b ≡ n → n ≡ 0
+    by zero e = refl
+    by (suc n) e = absurd (not_both (agrees a b) h (clash_some a b (omega (arith, e))))
+
+-- parts of two numbers that do not clash add up to a part of their sum
+sum_part : (a b c d : ℤ) → IsPart a c → IsPart b d → clash c d ≡ 0 → IsPart (a +ℤ b) (c +ℤ d)
+sum_part a b c d p q none = record {
+  ups = omega (arith, ints, p.ups, p.downs, q.ups, q.downs, none, one_zero c, one_zero d, one_zero (a +ℤ b));
+  downs = omega (arith, ints, p.ups, p.downs, q.ups, q.downs, none, one_zero c, one_zero d, one_zero (a +ℤ b));
+}
+
+pub between_parts : (a b c d : ℤ) → is_between a c ≡ true → is_between b d ≡ true → agrees c d ≡ true →
+    is_between (a +ℤ b) (c +ℤ d) ≡ true
+between_parts a b c d h k g =
+    between_of (a +ℤ b) (c +ℤ d) (sum_part a b c d (part_of a c h) (part_of b d k) (no_clash c d g))
+
+-- 0 is below each number
+pub between_zero : (a : ℤ) → is_between (pos 0) a ≡ true
+between_zero (pos a) = grind (arith, nat_tests, ints)
+between_zero (negsuc a) = grind (arith, nat_tests, ints)

@@ -1,12 +1,10 @@
 -- Each test and the fact that it decides.
-use Rattle.std.proofs.Common.{◌≡◌, ℤ, Bool, true, false, ◌&&◌, [], ◌∷◌, refl, ap, ◌∙◌, ◌⊎◌, inl, inr, sym, arith}
+pub use Rattle.std.proofs.lemmas.Bool.{and_parts as and_true}
+use Rattle.std.proofs.Common.{◌≡◌, ℤ, Bool, true, false, ◌&&◌, ◌∷◌, refl, ap, ◌∙◌, ◌⊎◌, inl, inr, sym, arith, ℕ, ◌<◌, ◌≤◌, nat_le, ◌≤ℤ◌, int_le, nat_eq, nat_lt, []}
 use Rattle.std.proofs.lemmas.Int.{ints}
 use Rattle.std.specs.Ordering.{int_eq}
 use Rattle.lattice_theory.specs.Vectors.{Vector, same}
-
-pub and_true : (p q : Bool) → (p && q) ≡ true → (p ≡ true) × (q ≡ true)
-and_true true q h = (refl, h)
-and_true false q h = absurd (cc)
+use Rattle.std.proofs.lemmas.Bool.Decides.{nat_tests}
 
 pub true_or_false : (b : Bool) → (b ≡ true) ⊎ (b ≡ false)
 true_or_false true = inl refl
@@ -41,3 +39,23 @@ same_or_not u v = elim (true_or_false (same u v)) [
   | inl h ↦ inl (same_true u v h)
   | inr h ↦ inr (λ e. not_both (same u v) (ap (λ w. same u w) (sym e) ∙ same_refl u) h)
 ]
+
+-- ---- comparisons of numbers
+
+pub le_true : (m n : ℕ) → nat_le m n ≡ true → m ≤ n
+le_true m n h = grind (arith, nat_tests)
+
+pub lt_true : (m n : ℕ) → nat_lt m n ≡ true → m < n
+lt_true m n h = grind (arith, nat_tests)
+
+pub nat_eq_true : (m n : ℕ) → nat_eq m n ≡ true → m ≡ n
+nat_eq_true m n h = grind (arith, nat_tests)
+
+pub nat_eq_of : (m n : ℕ) → m ≡ n → nat_eq m n ≡ true
+nat_eq_of m n h = grind (arith, nat_tests)
+
+pub int_le_true : (a b : ℤ) → int_le a b ≡ true → a ≤ℤ b
+int_le_true a b h = grind (arith, ints)
+
+pub int_le_of : (a b : ℤ) → a ≤ℤ b → int_le a b ≡ true
+int_le_of a b h = grind (arith, ints)

@@ -3,21 +3,21 @@ use Rattle.std.proofs.Common.{◌≡◌, ℕ, zero, suc, ◌<◌, ◌≤◌, ℤ
 use Rattle.std.proofs.lemmas.Int.{ints}
 use Rattle.std.proofs.lemmas.Bool.{cases_lt}
 use Rattle.std.specs.List.{AllZip}
-use Rattle.lattice_theory.specs.Lists.{zip_with}
 use Rattle.lattice_theory.specs.Vectors.{Vector, is_zero, norm1, add, sub, opposite}
 use Rattle.lattice_theory.specs.Lattices.{IsSlackBasis, first_parts}
 use Rattle.lattice_laws.proofs.Tests.{true_or_false}
-use Rattle.lattice_laws.proofs.Members.{contains_cases, contains_head, contains_tail}
 use Rattle.lattice_laws.proofs.Conformal.{length_below, norm_split, norm_some, opposite-opposite}
 use Rattle.lattice_laws.proofs.SlackBases.{IsSigned}
 use Rattle.fold_theory.specs.Programs.{Program, Brick, IsWithin, brick_residual}
 use Rattle.run_theory.specs.BrickRuns.{nearest, nearest_point, BrickMove, stepped, IsSignedPart, Improves, IsBrickRunFrom, IsBrickRun}
-use Rattle.fold_laws.proofs.Agreement.{length-sub, sub_swap, same_vector}
+use Rattle.lattice_laws.proofs.Sums.{length-sub, sub_swap, same_vector}
 use Rattle.fold_laws.proofs.Bounds.{length-within, within_parts}
 use Rattle.fold_laws.proofs.Residuals.{brick_residual_parts}
-use Rattle.fold_laws.proofs.Parts.{Part}
-use Rattle.yes_laws.proofs.Combinations.{scale_once}
+use Rattle.cover_laws.proofs.Parts.{Part}
+use Rattle.lattice_laws.proofs.Multiples.{scale_once}
 use Rattle.run_laws.proofs.SlackParts.{slack_part}
+use Rattle.lattice_theory.specs.Lists.{zip_with}
+use Rattle.lattice_laws.proofs.Members.{mapped}
 
 -- ---- the start and the end of a run
 
@@ -69,13 +69,8 @@ brick_run_end p basis b ms last uncrossed run =
 
 -- where the opposite is listed, v is among the opposites
 turned_member : (parts : List Vector) (v : Vector) → Contains parts (opposite v) → Contains (map opposite parts) v
-turned_member [] v (k, low, e) = absurd (omega arith)
-turned_member (u ∷ parts) v c = elim (contains_cases u parts (opposite v) c) [
-  | inl e ↦
-      subst (Contains (opposite u ∷ map opposite parts)) (ap opposite e ∙ opposite-opposite v)
-      (contains_head (opposite u) (map opposite parts))
-  | inr d ↦ contains_tail (opposite u) (map opposite parts) v (turned_member parts v d)
-]
+turned_member parts v listed =
+    subst (Contains (map opposite parts)) (opposite-opposite v) (mapped opposite parts (opposite v) listed)
 
 module _ (p : Program) (b : Brick) (basis : List Vector) (x : Vector) (slack : IsSlackBasis p.brick basis)
     (columns : length b.lower ≡ p.brick.cols) (right : length b.right ≡ length p.brick.rows)

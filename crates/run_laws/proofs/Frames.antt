@@ -1,39 +1,36 @@
 -- The frame that pieces are found by, from slack bases and brick sums.
-use Rattle.std.proofs.Common.{◌≡◌, ◌<◌, ◌≤◌, List, [], ◌∷◌, length, take, ap, arith, sym, Contains, inl, inr, subst}
-use Rattle.std.specs.List.{AllByRecursion}
+use Rattle.std.proofs.Common.{◌≡◌, ◌<◌, ◌≤◌, List, length, take, ap, arith, sym, Contains, inl, inr, subst}
+use Rattle.std.specs.List.{AllByRecursion, filter}
 use Rattle.fold_theory.specs.declared.Phase.{Phase}
 use Rattle.fold_theory.specs.declared.Relation.{Relation}
 use Rattle.lattice_theory.specs.Vectors.{Vector, ◌⊑◌, norm1, opposite, zeros}
 use Rattle.lattice_theory.specs.Matrices.{Matrix, product}
 use Rattle.lattice_theory.specs.Lattices.{IsSlackBasis, first_parts, kernel}
 use Rattle.lattice_theory.specs.SignedSums.{Sum, vectors}
-use Rattle.lattice_laws.proofs.Members.{contains_head, contains_tail}
+use Rattle.lattice_laws.proofs.Members.{each_has, at_most_greatest, each_member, filtered, mapped_from}
 use Rattle.lattice_laws.proofs.Conformal.{norm_some, norm-opposite, nonzero_of_norm}
 use Rattle.lattice_laws.proofs.SlackBases.{IsSigned}
 use Rattle.fold_theory.specs.Programs.{Program}
 use Rattle.run_theory.specs.Links.{Bases, AreBases, complexity, counts_in, generators, links_of, fold_complexity}
 use Rattle.run_theory.specs.BrickSums.{AreBrickSums}
-use Rattle.fold_laws.specs.Elements.{IsNonzeroElement}
-use Rattle.fold_laws.proofs.Reductions.{AreSized}
+use Rattle.cover_laws.specs.Elements.{IsNonzeroElement}
+use Rattle.lattice_laws.specs.VectorLists.{AreSized}
 use Rattle.yes_laws.proofs.PieceCounts.{LightPart}
 use Rattle.yes_laws.proofs.OnePiece.{IsTight, Frame}
-use Rattle.yes_laws.proofs.Generators.{IsGenerator, kernel_generators, each_has}
-use Rattle.yes_laws.proofs.Complexities.{complexity_some, first_member, at_most_greatest, tight_below, tight_turned, counts}
+use Rattle.cover_laws.proofs.Kernels.{IsGenerator, kernel_generators}
+use Rattle.yes_laws.proofs.Complexities.{complexity_some, tight_below, tight_turned, counts}
 use Rattle.run_laws.proofs.SlackParts.{slack_element, slack_part, still_written}
 use Rattle.run_laws.proofs.SignedLists.{combined_listed, IsQuiet, listed_quiet}
+use Rattle.std.proofs.lemmas.List.Elements.{All-from_recursion}
 
 -- ---- the generators
-
--- what holds of each member
-each_member : (P : Vector → Type 0) (vs : List Vector) → ((v : Vector) → Contains vs v → P v) → AllByRecursion P vs
-each_member P [] says = tt
-each_member P (v ∷ vs) says =
-    (says v (contains_head v vs), each_member P vs (λ w c. says w (contains_tail v vs w c)))
 
 pub slack_generators : (m : Matrix) (basis : List Vector) → IsSlackBasis m basis →
     AllByRecursion (IsGenerator m) (kernel m.cols basis)
 slack_generators m basis slack =
-    kernel_generators m basis (each_member (IsNonzeroElement m) basis (slack_element m basis slack))
+    kernel_generators m basis
+    (All-from_recursion (IsNonzeroElement m) basis
+    (each_member (IsNonzeroElement m) basis (slack_element m basis slack)))
 
 pub slack_sized : (m : Matrix) (basis : List Vector) → IsSlackBasis m basis → AreSized m.cols (kernel m.cols basis)
 slack_sized m basis slack =
@@ -53,12 +50,13 @@ module _ (phase : Phase) (relations : List Relation) (m : Matrix) (basis : List 
   first_light : (v : Vector) → Contains (first_parts m.cols basis) v → IsTight phase relations (product m v) →
       norm1 v ≤ complexity phase relations m basis
   first_light v c tight =
-      let r = first_member m.cols basis v c in
+      let r = mapped_from (take m.cols) basis v c in
       let here = subst (λ u. IsTight phase relations (product m u)) (sym r.2) tight in
       let pass = counts phase relations m r.0 (slack_element m basis slack r.0 r.1) here in
       omega (
         arith,
-        at_most_greatest (λ z. norm1 (take m.cols z)) (counts_in phase relations m.cols) basis r.0 r.1 pass,
+        at_most_greatest (λ z. norm1 (take m.cols z)) (filter (counts_in phase relations m.cols) basis) r.0
+            (filtered (counts_in phase relations m.cols) basis r.0 r.1 pass),
         ap norm1 r.2,
       )
 

@@ -11,9 +11,9 @@ use Rattle.fold_theory.specs.Programs.{Program, Brick, Bricks, IsBrick, IsProgra
 use Rattle.run_theory.specs.Links.{Bases, AreBases}
 use Rattle.run_theory.specs.BrickSums.{AreBrickSums}
 use Rattle.run_theory.specs.Steps.{Move, moved, NoneAugments, IsRun}
-use Rattle.fold_laws.proofs.Agreement.{add_zeros}
-use Rattle.fold_laws.proofs.Multiples.{scale-zeros, length-scale, rows-scale}
-use Rattle.fold_laws.proofs.Reductions.{AreSized}
+use Rattle.lattice_laws.proofs.Sums.{add_zeros}
+use Rattle.lattice_laws.proofs.Multiples.{scale-zeros, length-scale, rows-scale}
+use Rattle.lattice_laws.specs.VectorLists.{AreSized}
 use Rattle.yes_laws.proofs.Accepted.{bricks_of}
 use Rattle.yes_laws.proofs.Least.{points_sized}
 use Rattle.run_theory.specs.Starts.{IsStart}

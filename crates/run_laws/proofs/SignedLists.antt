@@ -5,16 +5,13 @@ use Rattle.std.specs.List.{AllByRecursion}
 use Rattle.std.proofs.lemmas.List.Elements.{All-contains}
 use Rattle.lattice_theory.specs.Vectors.{Vector, norm1, add, sub, scale, opposite, zeros, dot}
 use Rattle.lattice_theory.specs.SignedSums.{Sum, vectors, IsSignedSum, HasLevel, AreSums}
-use Rattle.lattice_laws.proofs.Members.{contains_cases, contains_head, contains_tail}
+use Rattle.lattice_laws.proofs.Members.{contains_cases, contains_head, contains_tail, mapped_from}
 use Rattle.lattice_laws.proofs.Conformal.{norm1-cons, length-add, length-opposite, sub-opposite}
-use Rattle.lattice_laws.proofs.Products.{length-zeros, rows-zeros, rows-add}
-use Rattle.fold_laws.proofs.Agreement.{add_assoc_v, add_zeros, zeros_add, length-sub}
-use Rattle.fold_laws.proofs.Multiples.{scale_zero, scale_suc, scale_negsuc, length-scale}
-use Rattle.fold_laws.proofs.Residuals.{rows-sub}
-use Rattle.fold_laws.proofs.Reductions.{AreSized}
-use Rattle.yes_laws.proofs.PieceCounts.{sub_itself}
+use Rattle.lattice_laws.proofs.Products.{length-zeros, rows-zeros, rows-add, rows-sub}
+use Rattle.lattice_laws.proofs.Sums.{add_assoc_v, add_zeros, zeros_add, length-sub, sub_itself}
+use Rattle.lattice_laws.proofs.Multiples.{scale_zero, scale_suc, scale_negsuc, length-scale, scale-turned}
+use Rattle.lattice_laws.specs.VectorLists.{AreSized}
 use Rattle.yes_laws.proofs.Combinations.{combined, length-combined}
-use Rattle.yes_laws.proofs.ListedSums.{scale-turned}
 
 -- w has t entries, and no row has a product with it
 pub record IsQuiet (t : ℕ) (rows : List Vector) (w : Vector) : Type 0 where
@@ -130,18 +127,10 @@ module _ (t : ℕ) (gens : List Vector) where
         subst (IsQuiet t rows) (sym e)
         (IsQuiet-sub t rows before g (sum_quiet n before is) (generator_quiet gens quiet g c))
 
-    listed_in : (sums : List Sum) (w : Vector) → Contains (vectors sums) w →
-        (s : Sum) × Contains sums s × (s.vector ≡ w)
-    listed_in [] w (k, low, e) = absurd (omega arith)
-    listed_in (s ∷ sums) w c = elim (contains_cases s.vector (vectors sums) w c) [
-      | inl e ↦ (s, contains_head s sums, e)
-      | inr d ↦ let r = listed_in sums w d in (r.0, contains_tail s sums r.0 r.1, r.2)
-    ]
-
     -- each listed vector
     pub listed_quiet : (bound : ℕ) (sums : List Sum) → AreSums t gens bound sums → (w : Vector) →
         Contains (vectors sums) w → IsQuiet t rows w
     listed_quiet bound sums are w c =
-        let r = listed_in sums w c in
+        let r = mapped_from (λ (s : Sum). s.vector) sums w c in
         let at = All-contains (λ s. (s.level ≤ bound) × HasLevel t gens s) sums r.0 are.sound r.1 in
         subst (IsQuiet t rows) r.2 (sum_quiet r.0.level r.0.vector at.1.reached)

@@ -7,22 +7,19 @@ use Rattle.lattice_theory.specs.Matrices.{Matrix, product, element}
 use Rattle.lattice_theory.specs.Lattices.{IsSlackBasis, first_parts, kernel}
 use Rattle.lattice_theory.specs.BasisLimits.{IsBasisElement}
 use Rattle.lattice_laws.proofs.Tests.{true_or_false}
-use Rattle.lattice_laws.proofs.Conformal.{conforms-take, opposite-take, nonzero_by_take, length_below, norm_split, norm_some, rest_below, add_rest}
-use Rattle.lattice_laws.proofs.Products.{rows-opposite, length-zeros, zeros_is, zero-zeros}
+use Rattle.lattice_laws.proofs.Conformal.{conforms-take, opposite-take, nonzero_by_take, length_below, norm_split, norm_some, rest_below, add_rest, conforms-drop}
+use Rattle.lattice_laws.proofs.Products.{rows-opposite, length-zeros, zeros_is, zero-zeros, rows-sub}
 use Rattle.lattice_laws.proofs.Elements.{element_in, first_nonzero}
 use Rattle.lattice_laws.proofs.SlackBases.{IsSigned, slack_basis_covers}
-use Rattle.fold_laws.specs.Elements.{IsNonzeroElement}
-use Rattle.fold_laws.proofs.Agreement.{length-sub}
-use Rattle.fold_laws.proofs.Residuals.{rows-sub}
-use Rattle.fold_laws.proofs.Terms.{opposite-zeros, ConformalSum}
-use Rattle.fold_laws.proofs.ConformalSums.{all_below}
-use Rattle.fold_laws.proofs.Reductions.{AreSized}
-use Rattle.fold_laws.proofs.Parts.{Part, conforms-drop, nonzero_turned, first_listed}
-use Rattle.yes_laws.proofs.Shares.{below_zeros}
-use Rattle.yes_laws.proofs.PieceCounts.{sub_itself}
-use Rattle.yes_laws.proofs.Combinations.{Written, written_by, below_agree}
-use Rattle.yes_laws.proofs.Generators.{in_kernel}
-use Rattle.yes_laws.proofs.Complexities.{first_member}
+use Rattle.cover_laws.specs.Elements.{IsNonzeroElement}
+use Rattle.lattice_laws.proofs.Sums.{length-sub, opposite-zeros, below_zeros, sub_itself}
+use Rattle.cover_laws.specs.ConformalSums.{ConformalSum}
+use Rattle.lattice_laws.proofs.VectorLists.{all_below, below_agree}
+use Rattle.lattice_laws.specs.VectorLists.{AreSized}
+use Rattle.cover_laws.proofs.Parts.{Part, nonzero_turned, first_listed}
+use Rattle.yes_laws.proofs.Combinations.{Written, written_by}
+use Rattle.cover_laws.proofs.Kernels.{in_kernel}
+use Rattle.lattice_laws.proofs.Members.{mapped_from}
 
 module _ (m : Matrix) (basis : List Vector) (slack : IsSlackBasis m basis) where
   -- the first parts of the members, and those of members without products
@@ -76,7 +73,7 @@ module _ (m : Matrix) (basis : List Vector) (slack : IsSlackBasis m basis) where
   -- a first part without products is a generator
   still_generator : (v : Vector) → Contains parts v → IsStill v → Contains gens v
   still_generator v c still =
-      let r = first_member m.cols basis v c in
+      let r = mapped_from (take m.cols) basis v c in
       let none : is_zero (drop m.cols r.0) ≡ true =
       ap is_zero ((slack_element r.0 r.1).member.image ∙ ap (product m) r.2 ∙ still) ∙ zero-zeros (length m.rows) in
       subst (Contains gens) r.2 (in_kernel m.cols basis r.0 r.1 none)

@@ -15,7 +15,7 @@ use Rattle.fold_theory.specs.Verdicts.{Holds}
 use Rattle.run_theory.specs.Links.{Bases, AreBases}
 use Rattle.run_theory.specs.BrickRuns.{BrickMove}
 use Rattle.run_theory.specs.Outcomes.{Outcome, RunRecord, AllSettle, FirstStuck, CountedPart, ClosedPart, IsOutcome, HoldsAt}
-use Rattle.fold_laws.proofs.Agreement.{same_vector}
+use Rattle.lattice_laws.proofs.Sums.{same_vector}
 use Rattle.yes_laws.proofs.Accepted.{bricks_of}
 use Rattle.run_theory.specs.Starts.{IsStart}
 use Rattle.run_laws.proofs.BrickRuns.{brick_run_end}

@@ -13,14 +13,14 @@ use Rattle.lattice_laws.proofs.Products.{length-zeros, zeros_is}
 use Rattle.fold_theory.specs.Programs.{Program, Brick, Bricks, AreWithin, link_rests, link_miss, phase_cost}
 use Rattle.run_theory.specs.Steps.{moved, partial_sums, AllowsEnd, IsCandidate, NoneAugments}
 use Rattle.run_theory.specs.Walks.{end_cost, walk_end}
-use Rattle.fold_laws.proofs.Agreement.{add_zeros, zeros_add}
-use Rattle.fold_laws.proofs.Reductions.{AreSized}
-use Rattle.fold_laws.proofs.Terms.{sum_of}
+use Rattle.lattice_laws.proofs.Sums.{add_zeros, zeros_add, sub_sub}
+use Rattle.lattice_laws.specs.VectorLists.{AreSized, sum_of}
 use Rattle.yes_laws.proofs.Layers.{UnitWalk}
-use Rattle.yes_laws.proofs.Combinations.{scale_once, length-sum}
+use Rattle.lattice_laws.proofs.Multiples.{scale_once}
+use Rattle.lattice_laws.proofs.VectorLists.{length-sum}
 use Rattle.yes_laws.proofs.PointParts.{forth}
 use Rattle.yes_laws.proofs.Points.{rests_are, image-forth, forth-sized}
-use Rattle.yes_laws.proofs.Least.{walk_end_is, sub_sub, changes, changes_closed, changes_counted}
+use Rattle.yes_laws.proofs.Least.{walk_end_is, changes, changes_closed, changes_counted}
 
 -- ---- steps of length 1
 

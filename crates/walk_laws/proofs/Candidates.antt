@@ -13,8 +13,8 @@ use Rattle.lattice_theory.specs.Matrices.{product}
 use Rattle.lattice_laws.proofs.Tests.{and_true}
 use Rattle.lattice_laws.proofs.Products.{times_sum, dot-add, dot-zeros, zeros_is, length-zeros}
 use Rattle.lattice_laws.proofs.Conformal.{length-add}
-use Rattle.fold_laws.proofs.Multiples.{rows-scale, scale-zeros, length-scale}
-use Rattle.fold_laws.proofs.Agreement.{add_zeros}
+use Rattle.lattice_laws.proofs.Multiples.{rows-scale, scale-zeros, length-scale}
+use Rattle.lattice_laws.proofs.Sums.{add_zeros}
 use Rattle.fold_theory.specs.Programs.{Program, IsBrick, Brick, Bricks, AreWithin, brick_cost, link_rests, link_miss, phase_cost}
 use Rattle.run_theory.specs.Steps.{moved, IsWalk, AllowsEnd}
 use Rattle.run_theory.specs.Walks.{walk_change, walk_end, WalkCosts}

@@ -7,14 +7,12 @@ use Rattle.std.proofs.lemmas.List.Elements.{recursion_from_All}
 use Rattle.fold_theory.specs.declared.Phase.{Phase}
 use Rattle.fold_theory.specs.declared.Phase.TheVariants.{Closed, Counted}
 use Rattle.run_theory.specs.declared.Claim.{Claim}
-use Rattle.run_theory.specs.declared.Claim.TheVariants as claim
 use Rattle.fold_theory.specs.declared.Verdict.TheVariants.{Optimal, InfeasibleLink}
-use Rattle.lattice_theory.specs.Lists.{all_zip}
 use Rattle.lattice_theory.specs.Vectors.{Vector, norm1, sub, zeros}
 use Rattle.lattice_theory.specs.Matrices.{product}
 use Rattle.lattice_theory.specs.Lattices.{is_complete_for}
 use Rattle.lattice_theory.specs.SignedSums.{vectors}
-use Rattle.lattice_laws.proofs.Tests.{and_true}
+use Rattle.lattice_laws.proofs.Tests.{and_true, int_le_true, le_true}
 use Rattle.lattice_laws.proofs.Conformal.{norm_none}
 use Rattle.lattice_laws.proofs.Products.{length-rows}
 use Rattle.fold_theory.specs.Programs.{Program, Brick, Bricks, IsBrick, IsProgram, AreWithin, MeetsBrickRows, is_within, brick_residual, link_rests, link_miss, cost, phase_cost}
@@ -23,15 +21,19 @@ use Rattle.run_theory.specs.Links.{complexity}
 use Rattle.run_theory.specs.Certificates.{Certificate, FoldPart, listed_sums}
 use Rattle.run_theory.specs.Checker.{at_most, potential_of, layers_hold, starts_at_zero, sums_are_closed, point_fits, parts_fit, fold_rules, first_failing, listed_generators, listed_links, Accept, claimed_verdict}
 use Rattle.fold_theory.specs.Verdicts.{Holds}
-use Rattle.fold_laws.proofs.Agreement.{same_vector}
-use Rattle.fold_laws.proofs.Bounds.{is_within_true, int_le_true}
+use Rattle.lattice_laws.proofs.Sums.{same_vector}
+use Rattle.fold_laws.proofs.Bounds.{is_within_true}
 use Rattle.fold_laws.proofs.BrickMisses.{all_pass, accepted_holds}
 use Rattle.yes_laws.proofs.Layers.{UnitWalk, walk_bound}
-use Rattle.yes_laws.proofs.ListedSums.{le_true, combined_listed}
+use Rattle.yes_laws.proofs.ListedSums.{combined_listed}
 use Rattle.yes_laws.proofs.OnePiece.{Frame}
 use Rattle.yes_laws.proofs.Least.{IsPlaced, IsHeld, least}
-use Rattle.yes_laws.proofs.Generators.{IsGenerator, complete_generators, each_has, gens_sized, written_of}
+use Rattle.cover_laws.proofs.Kernels.{IsGenerator, complete_generators, gens_sized}
+use Rattle.lattice_laws.proofs.Members.{each_has}
+use Rattle.yes_laws.proofs.Generators.{written_of}
 use Rattle.yes_laws.proofs.Complexities.{complexity_some, light_part}
+use Rattle.lattice_theory.specs.Lists.{all_zip}
+use Rattle.run_theory.specs.declared.Claim.TheVariants as claim
 
 -- ---- what the rules say
 

@@ -1,25 +1,22 @@
 -- Sums of multiples of generators, by count vectors: they are linear in the counts, and where the terms agree with each
 -- other, parts of the counts give parts of the sum.
-use Rattle.std.proofs.Common.{◌≡◌, ℕ, zero, suc, ◌*◌, ◌<◌, ◌≤◌, ℤ, pos, negsuc, ◌+ℤ◌, ◌*ℤ◌, unsigned_abs, true, ◌&&◌, List, [], ◌∷◌, length, map, refl, ap, arith, sym, ◌∙◌, ◌⊎◌, inl, inr, subst}
-use Rattle.std.proofs.lemmas.Int.{ints, unsigned_abs-mul}
+use Rattle.std.proofs.Common.{◌≡◌, ℕ, zero, suc, ◌*◌, ◌<◌, ◌≤◌, ℤ, pos, negsuc, ◌+ℤ◌, unsigned_abs, true, List, [], ◌∷◌, length, map, refl, ap, arith, sym, ◌∙◌, ◌⊎◌, inl, inr, subst}
+use Rattle.std.proofs.lemmas.Int.{ints}
 use Rattle.std.proofs.Math.IntN.{*ℤ_comm}
 use Rattle.std.specs.List.{AllZip, AllByRecursion}
-use borrow.Author.Differences.{up, down}
-use Rattle.lattice_theory.specs.Lists.{zip_with}
-use Rattle.lattice_theory.specs.Vectors.{Vector, ◌⊑◌, conforms, is_between, norm1, add, scale, opposite, zeros, dot}
+use Rattle.lattice_theory.specs.Vectors.{Vector, ◌⊑◌, conforms, is_between, norm1, add, scale, opposite, dot, zeros}
 use Rattle.lattice_laws.proofs.Tests.{and_true}
-use Rattle.lattice_laws.proofs.Signs.{IsPart, part_of}
 use Rattle.lattice_laws.proofs.Members.{contains_cases}
-use Rattle.lattice_laws.proofs.Conformal.{agree, agree_comm, agree_parts, norm1-cons, conforms_refl, conforms_trans, below_sum, add_comm_v, length-add, length_below, opposite-opposite}
-use Rattle.lattice_laws.proofs.Products.{times_sum, dot-add, dot-zeros, rows-zeros, rows-add, length-zeros}
+use Rattle.lattice_laws.proofs.Conformal.{agree, agree_comm, norm1-cons, conforms_refl, conforms_trans, below_sum, add_comm_v, length-add, length_below, opposite-opposite}
+use Rattle.lattice_laws.proofs.Products.{dot-add, dot-zeros, rows-zeros, rows-add, length-zeros}
 use Rattle.lattice_laws.proofs.SlackBases.{IsSigned}
-use Rattle.fold_laws.proofs.Agreement.{add_assoc_v, add_swap, add_zeros}
-use Rattle.fold_laws.proofs.Multiples.{scale_zero, scale_suc, scale_negsuc, length-scale, dot-scale, rows-scale, scale-zeros}
-use Rattle.fold_laws.proofs.Terms.{sum_of, weight, AreTerms}
-use Rattle.fold_laws.proofs.Reductions.{AreSized}
-use Rattle.fold_laws.proofs.ConformalSums.{AreAgreeing, AgreesWithAll, agree_all, all_below}
-use Rattle.yes_laws.proofs.Shares.{between_of, parts_sum}
-use Rattle.yes_laws.proofs.PieceCounts.{agreeing_weight}
+use Rattle.lattice_laws.proofs.Sums.{add_assoc_v, add_swap, add_zeros, interchange}
+use Rattle.lattice_laws.proofs.Multiples.{scale_zero, length-scale, dot-scale, rows-scale, scale-zeros, scale-below, scale_once, norm-scale-abs, scale-sum, scale_back}
+use Rattle.lattice_laws.specs.VectorLists.{sum_of, weight, AreSized}
+use Rattle.cover_laws.specs.ConformalSums.{AreTerms}
+use Rattle.lattice_laws.proofs.VectorLists.{AreAgreeing, agree_all, all_below, agreeing_weight, below_agree, length-sum}
+use Rattle.lattice_laws.proofs.Agreement.{parts_sum}
+use Rattle.lattice_theory.specs.Lists.{zip_with}
 
 -- the generators, each as often as the count says
 abbrev pub terms : List Vector → Vector → List Vector
@@ -31,86 +28,7 @@ combined t gens c = sum_of t (terms gens c)
 
 -- ---- multiples
 
--- multiples of one generator add up
-times_sum_left : (a b x : ℤ) → (a +ℤ b) *ℤ x ≡ a *ℤ x +ℤ b *ℤ x
-times_sum_left a b x = omega (arith, ints, *ℤ_comm (a +ℤ b) x, *ℤ_comm a x, *ℤ_comm b x, times_sum x a b)
-
-scale-sum : (a b : ℤ) (g : Vector) → scale (a +ℤ b) g ≡ add (scale a g) (scale b g)
-scale-sum a b [] = refl
-scale-sum a b (x ∷ g) = λ i. times_sum_left a b x i ∷ scale-sum a b g i
-
-pub scale_once : (g : Vector) → scale (pos 1) g ≡ g
-scale_once g = scale_suc 0 g ∙ ap (add g) (scale_zero g) ∙ add_zeros g (length g) refl
-
-scale_back : (g : Vector) → scale (negsuc 0) g ≡ opposite g
-scale_back g = sym (scale_negsuc 0 g) ∙ ap opposite (scale_once g)
-
--- the positive and the negative part of a product
-up_times : (m : ℕ) (x : ℤ) → up (pos m *ℤ x) ≡ m * up x
-up_times m (pos k) = grind (arith, ints)
-up_times m (negsuc k) = grind (arith, ints)
-
-down_times : (m : ℕ) (x : ℤ) → down (pos m *ℤ x) ≡ m * down x
-down_times m (pos k) = grind (arith, ints)
-down_times m (negsuc k) = grind (arith, ints)
-
-up_turned : (m : ℕ) (x : ℤ) → up (negsuc m *ℤ x) ≡ suc m * down x
-up_turned m (pos k) = grind (arith, ints)
-up_turned m (negsuc k) = grind (arith, ints)
-
-down_turned : (m : ℕ) (x : ℤ) → down (negsuc m *ℤ x) ≡ suc m * up x
-down_turned m (pos k) = grind (arith, ints)
-down_turned m (negsuc k) = grind (arith, ints)
-
-le_times : (m n k : ℕ) → m ≤ n → m * k ≤ n * k
-le_times zero n k h = omega arith
-le_times (suc m) zero k h = absurd (omega arith)
-le_times (suc m) (suc n) k h = omega (arith, le_times m n k (omega arith))
-
--- a part of a number times another one
-between_times : (a c x : ℤ) → is_between a c ≡ true → is_between (a *ℤ x) (c *ℤ x) ≡ true
-between_times a c x h = between_of (a *ℤ x) (c *ℤ x) (by a c (part_of a c h))
-  where
-    by : (a c : ℤ) → IsPart a c → IsPart (a *ℤ x) (c *ℤ x)
-    by (pos m) (pos n) p = record {
-      ups = omega (arith, up_times m x, up_times n x, le_times m n (up x) p.ups);
-      downs = omega (arith, down_times m x, down_times n x, le_times m n (down x) p.ups);
-    }
-    by (pos zero) (negsuc n) p = record { ups = omega (arith, up_times 0 x); downs = omega (arith, down_times 0 x) }
-    by (pos (suc m)) (negsuc n) p = absurd (omega (arith, p.ups))
-    by (negsuc m) (pos n) p = absurd (omega (arith, p.downs))
-    by (negsuc m) (negsuc n) p = record {
-      ups = omega (arith, up_turned m x, up_turned n x, le_times (suc m) (suc n) (down x) p.downs);
-      downs = omega (arith, down_turned m x, down_turned n x, le_times (suc m) (suc n) (up x) p.downs);
-    }
-
--- parts of the number give parts of the multiple
-pub scale-below : (a c : ℤ) (g : Vector) → is_between a c ≡ true → scale a g ⊑ scale c g
-scale-below a c [] h = refl
-scale-below a c (x ∷ g) h =
-    ap (λ t. t && conforms (scale a g) (scale c g)) (between_times a c x h) ∙ scale-below a c g h
-
--- the norm of a multiple
-norm-scale-abs : (x : ℤ) (g : Vector) → norm1 (scale x g) ≡ unsigned_abs x * norm1 g
-norm-scale-abs x [] = omega arith
-norm-scale-abs x (y ∷ g) =
-    omega (
-      arith,
-      norm1-cons (x *ℤ y) (scale x g),
-      ap (λ k. unsigned_abs x * k) (norm1-cons y g),
-      unsigned_abs-mul x y,
-      norm-scale-abs x g,
-    )
-
 -- ---- sums by counts are linear in the counts
-
-pub interchange : (a b c d : Vector) → add (add a b) (add c d) ≡ add (add a c) (add b d)
-interchange a b c d =
-    sym (add_assoc_v a b (add c d)) ∙ ap (add a) (add_swap b c d) ∙ add_assoc_v a c (add b d)
-
-pub length-sum : (n : ℕ) (us : List Vector) → AreSized n us → length (sum_of n us) ≡ n
-length-sum n [] sized = length-zeros n
-length-sum n (u ∷ us) sized = length-add u (sum_of n us) n sized.0 (length-sum n us sized.1)
 
 module _ (t : ℕ) where
   pub length-combined : (gens : List Vector) (c : Vector) → AreSized t gens → length (combined t gens c) ≡ t
@@ -283,15 +201,6 @@ written_by t gens (e ∷ es) sized signed agreeing =
     (m.count, record { size = m.size; sum = m.sum ∙ ap (add e) w.1.sum; below = m.below })
 
 -- ---- parts of such counts
-
--- vectors below one vector agree with each other
-pub below_agree : (es : List Vector) (y : Vector) → AllByRecursion (λ e. e ⊑ y) es → AreAgreeing es
-below_agree [] y below = tt
-below_agree (e ∷ es) y below = (with_each e es below.0 below.1, below_agree es y below.1)
-  where
-    with_each : (e : Vector) (es : List Vector) → e ⊑ y → AllByRecursion (λ f. f ⊑ y) es → AgreesWithAll e es
-    with_each e [] h all = tt
-    with_each e (f ∷ es) h all = (agree_parts e f y h all.0, with_each e es h all.1)
 
 -- parts of the counts give parts of the terms
 terms-below : (gens : List Vector) (a c : Vector) → a ⊑ c → AllZip ◌⊑◌ (terms gens a) (terms gens c)

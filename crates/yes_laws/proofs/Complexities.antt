@@ -1,57 +1,25 @@
 -- The complexity of a list that is complete for the lattice of the link matrix: below each vector that is not 0, and
 -- whose image is as the phase wants it, stands one that is no heavier.
-use Rattle.std.proofs.Common.{◌≡◌, ℕ, ◌<◌, ◌≤◌, Bool, true, false, cond, List, [], ◌∷◌, length, map, take, refl, ap, arith, sym, ◌∙◌, Contains, ◌⊎◌, inl, inr, subst}
+use Rattle.std.proofs.Common.{◌≡◌, ℕ, ◌<◌, ◌≤◌, Bool, true, false, cond, List, length, take, refl, ap, arith, sym, ◌∙◌, Contains, ◌⊎◌, inl, inr, subst}
 use Rattle.std.specs.List.{list_all, filter}
 use Rattle.std.proofs.lemmas.List.Elements.{All-contains}
 use Rattle.fold_theory.specs.declared.Phase.{Phase}
 use Rattle.fold_theory.specs.declared.Phase.TheVariants.{Closed, Counted}
 use Rattle.fold_theory.specs.declared.Relation.{Relation}
-use Rattle.lattice_theory.specs.Lists.{greatest}
 use Rattle.lattice_theory.specs.Vectors.{Vector, ◌⊑◌, is_zero, norm1, opposite}
 use Rattle.lattice_theory.specs.Matrices.{Matrix, product}
 use Rattle.lattice_theory.specs.Lattices.{is_complete_for, first_parts}
-use Rattle.lattice_laws.proofs.Members.{contains_cases, contains_head, contains_tail}
-use Rattle.lattice_laws.proofs.Tests.{not_both}
 use Rattle.lattice_laws.proofs.Conformal.{norm_some, norm-opposite, nonzero_of_norm}
 use Rattle.lattice_laws.proofs.Products.{rows-opposite}
 use Rattle.fold_theory.specs.Programs.{keeps_equations}
 use Rattle.run_theory.specs.Links.{complexity, counts_in}
-use Rattle.fold_laws.specs.Elements.{IsNonzeroElement}
+use Rattle.cover_laws.specs.Elements.{IsNonzeroElement}
 use Rattle.fold_laws.proofs.LinkMisses.{equations_kept_below, equations_kept_turned}
-use Rattle.fold_laws.proofs.Parts.{part_of_complete}
-use Rattle.fold_laws.proofs.CompleteLists.{complete_elements}
+use Rattle.cover_laws.proofs.Parts.{part_of_complete}
+use Rattle.cover_laws.proofs.CompleteLists.{complete_elements}
 use Rattle.yes_laws.proofs.PieceCounts.{LightPart}
 use Rattle.yes_laws.proofs.OnePiece.{IsTight}
-
--- a member that has a first part
-pub first_member : (n : ℕ) (basis : List Vector) (v : Vector) → Contains (first_parts n basis) v →
-    (z : Vector) × Contains basis z × (take n z ≡ v)
-first_member n [] v (k, low, e) = absurd (omega arith)
-first_member n (z ∷ basis) v c = elim (contains_cases (take n z) (first_parts n basis) v c) [
-  | inl e ↦ (z, contains_head z basis, e)
-  | inr d ↦ let r = first_member n basis v d in (r.0, contains_tail z basis r.0 r.1, r.2)
-]
-
--- the value of a member that passes the test is at most the greatest one
-pub at_most_greatest : (f : Vector → ℕ) (test : Vector → Bool) (basis : List Vector) (z : Vector) → Contains basis z →
-    test z ≡ true → f z ≤ greatest (map f (filter test basis))
-at_most_greatest f test [] z (k, low, e) pass = absurd (omega arith)
-at_most_greatest f test (y ∷ basis) z c pass =
-    by (test y) refl (λ d. at_most_greatest f test basis z d pass)
-  where
-    others : List Vector
-    others = filter test basis
-
-    by : (b : Bool) → test y ≡ b → (Contains basis z → f z ≤ greatest (map f others)) →
-        f z ≤ greatest (map f (cond b (y ∷ others) others))
-    by true p further = elim (contains_cases y basis z c) [
-      | inl e ↦ omega (arith, ap f e)
-      | inr d ↦ omega (arith, further d)
-    ]
-    by false p further = elim (contains_cases y basis z c) [
-      | inl e ↦ absurd (not_both (test z) pass (ap test (sym e) ∙ p))
-      | inr d ↦ further d
-    ]
+use Rattle.lattice_laws.proofs.Members.{at_most_greatest, filtered, mapped_from}
 
 pub complexity_some : (phase : Phase) (relations : List Relation) (m : Matrix) (basis : List Vector) →
     1 ≤ complexity phase relations m basis
@@ -85,13 +53,14 @@ module _ (phase : Phase) (relations : List Relation) (m : Matrix) (basis : List 
   first_light : (v : Vector) → Contains (first_parts m.cols basis) v → IsTight phase relations (product m v) →
       norm1 v ≤ complexity phase relations m basis
   first_light v c tight =
-      let r = first_member m.cols basis v c in
+      let r = mapped_from (take m.cols) basis v c in
       let is = All-contains (IsNonzeroElement m) basis r.0 (complete_elements m basis complete) r.1 in
       let here = subst (λ u. IsTight phase relations (product m u)) (sym r.2) tight in
-      let pass = counts phase relations m r.0 is here in
+      let test = counts_in phase relations m.cols in
+      let pass : test r.0 ≡ true = counts phase relations m r.0 is here in
       omega (
         arith,
-        at_most_greatest (λ z. norm1 (take m.cols z)) (counts_in phase relations m.cols) basis r.0 r.1 pass,
+        at_most_greatest (λ z. norm1 (take m.cols z)) (filter test basis) r.0 (filtered test basis r.0 r.1 pass),
         ap norm1 r.2,
       )
 

@@ -4,7 +4,6 @@
 use Rattle.std.specs.Prelude.{◌≡◌, ℕ, ℤ, pos, List, [], ◌∷◌, Option, Some, None, refl}
 use Rattle.std.proofs.lemmas.List.Elements.{All-from_recursion}
 use Rattle.fold_theory.specs.declared.Relation.TheVariants.{Less}
-use Rattle.run_theory.specs.declared.Claim.TheVariants as claim
 use Rattle.run_theory.specs.declared.Rule.TheVariants.{C6}
 use Rattle.fold_theory.specs.declared.Verdict.TheVariants.{Optimal, InfeasibleLink}
 use Rattle.lattice_theory.proofs.KnownValues.{minus}
@@ -16,6 +15,7 @@ use Rattle.fold_theory.proofs.KnownValues.{program_with, brick_with, best_point}
 use Rattle.run_theory.proofs.KnownValues.{the_bricks, the_sums, certificate_with, link_certificate}
 use Rattle.fold_laws.proofs.KnownValues.{one_brick, one_row}
 use Rattle.yes_laws.proofs.Accepted.{yes_holds}
+use Rattle.run_theory.specs.declared.Claim.TheVariants as claim
 
 -- what the first columns are to add up to is no part of what makes it a program
 it_is_a_program : (right : ℕ) → IsProgram (program_with right 4)

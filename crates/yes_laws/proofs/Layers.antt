@@ -3,16 +3,15 @@ use Rattle.std.proofs.Common.{◌≡◌, ℤ, ◌+ℤ◌, Bool, true, false, ◌
 use Rattle.std.proofs.lemmas.Int.{ints}
 use Rattle.std.specs.List.{list_all}
 use Rattle.fold_theory.specs.declared.Phase.{Phase}
-use Rattle.lattice_theory.specs.Lists.{all_zip}
 use Rattle.lattice_theory.specs.Vectors.{Vector, add, same}
 use Rattle.lattice_theory.specs.Matrices.{product}
-use Rattle.lattice_laws.proofs.Tests.{and_true, same_true, same_refl}
-use Rattle.lattice_laws.proofs.Members.{contains_cases}
+use Rattle.lattice_laws.proofs.Tests.{and_true, same_true, same_refl, int_le_true, int_le_of}
+use Rattle.lattice_laws.proofs.Members.{contains_cases, list_all_at}
 use Rattle.fold_theory.specs.Programs.{Program, Brick, Bricks, is_within, IsWithin}
 use Rattle.run_theory.specs.Walks.{brick_change, end_cost}
 use Rattle.run_theory.specs.Checker.{at_most, plus, potential_of, layer_holds, layers_hold}
-use Rattle.fold_laws.proofs.Bounds.{is_within_of, int_le_true, int_le_of}
-use Rattle.fold_laws.proofs.CompleteLists.{list_all_at}
+use Rattle.fold_laws.proofs.Bounds.{is_within_of}
+use Rattle.lattice_theory.specs.Lists.{all_zip}
 
 -- ---- cells
 

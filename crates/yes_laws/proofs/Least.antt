@@ -6,38 +6,24 @@ use Rattle.std.proofs.lemmas.Bool.{cases_lt}
 use Rattle.std.specs.List.{AllZip, AllByRecursion}
 use Rattle.fold_theory.specs.declared.Phase.{Phase}
 use Rattle.fold_theory.specs.declared.Phase.TheVariants.{Closed, Counted}
-use Rattle.lattice_theory.specs.Lists.{sum_zip}
 use Rattle.lattice_theory.specs.Vectors.{Vector, add, sub, zeros}
 use Rattle.lattice_theory.specs.Matrices.{product}
-use Rattle.lattice_laws.proofs.Conformal.{sub-opposite, length-add}
-use Rattle.lattice_laws.proofs.Products.{length-zeros}
+use Rattle.lattice_laws.proofs.Conformal.{length-add}
+use Rattle.lattice_laws.proofs.Products.{length-zeros, rows-sub}
 use Rattle.fold_theory.specs.Programs.{Program, Brick, Bricks, IsBrick, AreWithin, MeetsBrickRows, brick_cost, link_rests, link_miss, phase_cost}
 use Rattle.run_theory.specs.Steps.{AllowsEnd, partial_sums}
 use Rattle.run_theory.specs.Walks.{brick_change, end_cost, walk_end}
-use Rattle.fold_laws.proofs.Agreement.{add_assoc_v, add_zeros, zeros_add}
+use Rattle.lattice_laws.proofs.Sums.{add_assoc_v, add_zeros, zeros_add, sub_itself, sub_sub, sub_zeros}
 use Rattle.fold_laws.proofs.Bounds.{length-within}
-use Rattle.fold_laws.proofs.Residuals.{rows-sub}
-use Rattle.fold_laws.proofs.Terms.{sum_of, weight, opposite-zeros}
-use Rattle.fold_laws.proofs.Reductions.{AreSized}
+use Rattle.lattice_laws.specs.VectorLists.{sum_of, weight, AreSized}
 use Rattle.yes_laws.proofs.Layers.{UnitWalk}
-use Rattle.yes_laws.proofs.PieceCounts.{sub_itself}
-use Rattle.yes_laws.proofs.Combinations.{length-sum}
+use Rattle.lattice_laws.proofs.VectorLists.{length-sum}
 use Rattle.yes_laws.proofs.PointParts.{AreParts, forth, back}
 use Rattle.yes_laws.proofs.Points.{way, ArePartsOf, forth-sized, back-sized, parts-sized, rests_are, image-forth, miss_parts, way_kept, are_parts, parts-length, parts_within, phase_parts, nearer, same_point}
 use Rattle.yes_laws.proofs.OnePiece.{IsTight, Frame, OnePiece, one_piece}
+use Rattle.lattice_theory.specs.Lists.{sum_zip}
 
 -- ---- differences
-
-pub sub_sub : (r u v : Vector) → sub (sub r u) v ≡ sub r (add u v)
-sub_sub [] u v = refl
-sub_sub (c ∷ r) [] v = refl
-sub_sub (c ∷ r) (a ∷ u) [] = refl
-sub_sub (c ∷ r) (a ∷ u) (b ∷ v) =
-    let here : (c -ℤ a) -ℤ b ≡ c -ℤ (a +ℤ b) = omega (arith, ints) in
-    λ i. here i ∷ sub_sub r u v i
-
-sub_zeros : (v : Vector) (n : ℕ) → length v ≡ n → sub v (zeros n) ≡ v
-sub_zeros v n size = sub-opposite v (zeros n) ∙ ap (add v) (opposite-zeros n) ∙ add_zeros v n size
 
 -- ---- walks of length 1
 

@@ -1,23 +1,18 @@
 -- Listed sums that begin at zero and are closed under one more generator below a bound: each sum of so many generators,
 -- with either sign, is listed.
-use Rattle.std.proofs.Common.{◌≡◌, ℕ, zero, suc, ◌+◌, ◌<◌, ◌≤◌, ℤ, pos, negsuc, unsigned_abs, nat_le, Bool, true, false, ◌&&◌, ◌||◌, List, [], ◌∷◌, length, refl, ap, arith, sym, ◌∙◌, Contains, inl, inr, subst}
-use Rattle.std.proofs.lemmas.Bool.Decides.{nat_tests}
+use Rattle.std.proofs.Common.{◌≡◌, ℕ, zero, suc, ◌+◌, ◌<◌, ◌≤◌, ℤ, pos, negsuc, unsigned_abs, nat_le, Bool, true, false, ◌&&◌, ◌||◌, List, [], ◌∷◌, length, refl, ap, arith, sym, ◌∙◌, Contains, subst}
 use Rattle.std.specs.List.{list_all}
 use Rattle.lattice_theory.specs.Vectors.{Vector, is_rising, norm1, add, sub, scale, opposite, zeros, same}
 use Rattle.lattice_theory.specs.SignedSums.{Sum, vectors}
-use Rattle.lattice_laws.proofs.Tests.{and_true, same_true}
-use Rattle.lattice_laws.proofs.Members.{contains_cases, contains_head, contains_tail}
+use Rattle.lattice_laws.proofs.Tests.{and_true, same_true, le_true}
+use Rattle.lattice_laws.proofs.Members.{contains_head, contains_tail, list_all_at, mapped}
 use Rattle.lattice_laws.proofs.Conformal.{norm1-cons, length-add, length-opposite, sub-opposite}
-use Rattle.lattice_laws.proofs.Products.{times_opposite, length-zeros}
+use Rattle.lattice_laws.proofs.Products.{length-zeros}
 use Rattle.run_theory.specs.Checker.{is_sum_within, sums_are_closed}
-use Rattle.fold_laws.proofs.Agreement.{add_assoc_v, add_zeros, zeros_add}
-use Rattle.fold_laws.proofs.Multiples.{scale_zero, scale_suc, scale_negsuc, length-scale}
-use Rattle.fold_laws.proofs.Reductions.{AreSized}
-use Rattle.fold_laws.proofs.CompleteLists.{list_all_at}
+use Rattle.lattice_laws.proofs.Sums.{add_assoc_v, add_zeros, zeros_add}
+use Rattle.lattice_laws.proofs.Multiples.{scale_zero, scale_suc, scale_negsuc, length-scale, scale-turned}
+use Rattle.lattice_laws.specs.VectorLists.{AreSized}
 use Rattle.yes_laws.proofs.Combinations.{combined, length-combined}
-
-pub le_true : (m n : ℕ) → nat_le m n ≡ true → m ≤ n
-le_true m n h = grind (arith, nat_tests)
 
 -- w is a listed sum of at most this level
 record IsSumAt (sums : List Sum) (level : ℕ) (w : Vector) : Type 0 where
@@ -51,21 +46,6 @@ sum_at (s ∷ sums) level w h =
     }
     by true false p q k rest = rest k
     by false d p q k rest = rest k
-
--- the vectors of the listed sums
-in_vectors : (sums : List Sum) (s : Sum) → Contains sums s → Contains (vectors sums) s.vector
-in_vectors [] s (k, low, e) = absurd (omega arith)
-in_vectors (r ∷ sums) s c = elim (contains_cases r sums s c) [
-  | inl e ↦
-      subst (λ v. Contains (vectors (r ∷ sums)) v) (ap (λ (x : Sum). x.vector) e)
-      (contains_head r.vector (vectors sums))
-  | inr d ↦ contains_tail r.vector (vectors sums) s.vector (in_vectors sums s d)
-]
-
--- a multiple of the opposite
-pub scale-turned : (n : ℕ) (g : Vector) → scale (pos n) (opposite g) ≡ opposite (scale (pos n) g)
-scale-turned n [] = refl
-scale-turned n (a ∷ g) = λ i. times_opposite (pos n) a i ∷ scale-turned n g i
 
 module _ (t : ℕ) (gens : List Vector) (bound : ℕ) (sums : List Sum)
     (closed : sums_are_closed t gens bound sums ≡ true) where
@@ -186,7 +166,7 @@ module _ (t : ℕ) (gens : List Vector) (bound : ℕ) (sums : List Sum)
   pub zero_listed : Contains (vectors sums) (zeros t)
   zero_listed =
       let a = sum_at sums 0 (zeros t) parts.0 in
-      subst (Contains (vectors sums)) a.is (in_vectors sums a.member a.listed)
+      subst (Contains (vectors sums)) a.is (mapped (λ s. s.vector) sums a.member a.listed)
 
   -- the sum of generators by counts within the bound is listed
   pub combined_listed : AreSized t gens → (c : Vector) → norm1 c ≤ bound → Contains (vectors sums) (combined t gens c)
@@ -195,4 +175,4 @@ module _ (t : ℕ) (gens : List Vector) (bound : ℕ) (sums : List Sum)
       let a =
       combined_added gens c (λ v d. d) sized 0 (zeros t) (length-zeros t) start (omega (arith, light)) in
       subst (Contains (vectors sums)) (a.is ∙ zeros_add (combined t gens c) t (length-combined t gens c sized))
-      (in_vectors sums a.member a.listed)
+      (mapped (λ s. s.vector) sums a.member a.listed)

@@ -13,11 +13,12 @@ use Rattle.lattice_laws.proofs.Products.{rows-zeros, length-rows, length-zeros, 
 use Rattle.fold_theory.specs.Programs.{Program, keeps_equations}
 use Rattle.run_theory.specs.Links.{link_matrix}
 use Rattle.run_theory.specs.Steps.{partial_sums}
-use Rattle.fold_laws.proofs.Terms.{sum_of, weight}
-use Rattle.fold_laws.proofs.Reductions.{AreSized}
+use Rattle.lattice_laws.specs.VectorLists.{sum_of, weight, AreSized}
 use Rattle.yes_laws.proofs.Shares.{StayWithin}
-use Rattle.yes_laws.proofs.PieceCounts.{norm-zeros, zeros_below_sized, LightPart, piece_counts}
-use Rattle.yes_laws.proofs.Combinations.{combined, combined-add, combined-zeros, combined-sum, product-combined, rows-combined, length-sum, IsWritten, Written, part_below, part_weighs}
+use Rattle.lattice_laws.proofs.Sums.{norm-zeros, zeros_below_sized}
+use Rattle.yes_laws.proofs.PieceCounts.{LightPart, piece_counts}
+use Rattle.yes_laws.proofs.Combinations.{combined, combined-add, combined-zeros, combined-sum, product-combined, rows-combined, IsWritten, Written, part_below, part_weighs}
+use Rattle.lattice_laws.proofs.VectorLists.{length-sum}
 use Rattle.yes_laws.proofs.Points.{parts-sized}
 
 -- what the phase asks of a change of the linking rows: in the closed phase no equation changes

@@ -3,23 +3,16 @@
 use Rattle.std.proofs.Common.{◌≡◌, ℕ, zero, suc, ◌+◌, ◌<◌, ◌≤◌, ℤ, pos, negsuc, Bool, true, false, ◌&&◌, List, [], ◌∷◌, length, refl, ap, arith, sym, ◌∙◌, ◌⊎◌, inl, inr, subst}
 use Rattle.std.proofs.lemmas.Int.{ints}
 use Rattle.std.proofs.lemmas.Bool.Decides.{nat_tests}
-use Rattle.lattice_theory.specs.Vectors.{Vector, ◌⊑◌, conforms, is_between, norm1, add, sub, opposite, zeros}
-use Rattle.lattice_laws.proofs.Signs.{agrees}
-use Rattle.lattice_laws.proofs.Conformal.{agree, length_below, norm1-cons, norm_agree, norm_of_zero, norm_sum, norm-opposite, length-opposite, sub-opposite, norm_none}
-use Rattle.lattice_laws.proofs.Products.{length-zeros, zero-zeros, zeros_is}
-use Rattle.fold_laws.proofs.Agreement.{add_zeros, zeros_add, length-sub}
-use Rattle.fold_laws.proofs.BrickMisses.{no_rest}
-use Rattle.fold_laws.proofs.Terms.{sum_of, weight, opposite-zeros}
-use Rattle.fold_laws.proofs.Reductions.{AreSized}
-use Rattle.fold_laws.proofs.ConformalSums.{AreAgreeing, AgreesWithAll, agree_all}
+use Rattle.lattice_theory.specs.Vectors.{Vector, ◌⊑◌, conforms, is_between, norm1, add, opposite, zeros}
+use Rattle.lattice_laws.proofs.Signs.{agrees, between_zero}
+use Rattle.lattice_laws.proofs.Conformal.{agree, length_below, norm1-cons, norm-opposite, length-opposite, sub-opposite}
+use Rattle.lattice_laws.proofs.Products.{length-zeros}
+use Rattle.lattice_laws.proofs.Sums.{add_zeros, zeros_add, opposite-zeros, norm-zeros, sub_itself, zeros_below, zeros_below_sized}
+use Rattle.lattice_laws.specs.VectorLists.{sum_of, weight, AreSized}
+use Rattle.lattice_laws.proofs.VectorLists.{AreAgreeing, AgreesWithAll, agreeing_weight, norm_sum_of}
 use Rattle.yes_laws.proofs.Shares.{StayWithin, Shares, shares_of}
 
 -- ---- units
-
--- 0 is below each number
-between_zero : (a : ℤ) → is_between (pos 0) a ≡ true
-between_zero (pos a) = grind (arith, nat_tests, ints)
-between_zero (negsuc a) = grind (arith, nat_tests, ints)
 
 -- 1 is between 0 and the one number, and -1 between 0 and the other
 abbrev AreApart : ℤ → ℤ → Type 0
@@ -32,16 +25,6 @@ apart (pos (suc a)) (negsuc b) h = inl (grind (arith, nat_tests, ints), grind (a
 apart (negsuc a) (pos zero) h = absurd (grind (arith, nat_tests, ints))
 apart (negsuc a) (pos (suc b)) h = inr (grind (arith, nat_tests, ints), grind (arith, nat_tests, ints))
 apart (negsuc a) (negsuc b) h = absurd (grind (arith, nat_tests, ints))
-
-pub zeros_below : (u : Vector) → zeros (length u) ⊑ u
-zeros_below [] = refl
-zeros_below (a ∷ u) = ap (λ t. t && conforms (zeros (length u)) u) (between_zero a) ∙ zeros_below u
-
-pub zeros_below_sized : (u : Vector) (n : ℕ) → length u ≡ n → zeros n ⊑ u
-zeros_below_sized u n size = subst (λ k. zeros k ⊑ u) size (zeros_below u)
-
-pub norm-zeros : (n : ℕ) → norm1 (zeros n) ≡ 0
-norm-zeros n = norm_of_zero (zeros n) (zero-zeros n)
 
 -- a unit below u whose opposite is below v
 record Meeting (u v : Vector) : Type 0 where
@@ -126,9 +109,6 @@ agreeing_or_clashing (u ∷ us) = by (with_all u us) (agreeing_or_clashing us)
     by (inl all) (inr pair) = inr (inr pair)
 
 -- ---- a unit and its opposite
-
-pub sub_itself : (u : Vector) (n : ℕ) → length u ≡ n → sub u u ≡ zeros n
-sub_itself u n size = zeros_is (sub u u) (norm_none (sub u u) (no_rest u)) ∙ ap zeros (length-sub u u n size size)
 
 -- a vector and its opposite cancel each other
 cancelled : (u : Vector) (n : ℕ) → length u ≡ n → add u (opposite u) ≡ zeros n
@@ -246,21 +226,6 @@ module _ (n most : ℕ) where
       }
 
 -- ---- the counts of a piece
-
--- the norm of a sum is at most the sum of the norms
-pub norm_sum_of : (n : ℕ) (us : List Vector) → norm1 (sum_of n us) ≤ weight us
-norm_sum_of n [] = omega (arith, norm-zeros n)
-norm_sum_of n (u ∷ us) = omega (arith, norm_sum_of n us, norm_sum u (sum_of n us))
-
--- the norms of vectors that agree add up
-pub agreeing_weight : (n : ℕ) (us : List Vector) → AreSized n us → AreAgreeing us → norm1 (sum_of n us) ≡ weight us
-agreeing_weight n [] sized agreeing = norm-zeros n
-agreeing_weight n (u ∷ us) sized agreeing =
-    omega (
-      arith,
-      norm_agree u (sum_of n us) (agree_all n u us sized.0 agreeing.0),
-      agreeing_weight n us sized.1 agreeing.1,
-    )
 
 -- a vector below w, with a property, that is not 0 and at most so heavy
 pub record LightPart (most : ℕ) (P : Vector → Type 0) (w : Vector) : Type 0 where

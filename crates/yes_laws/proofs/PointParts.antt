@@ -4,12 +4,12 @@ use Rattle.std.proofs.Common.{ℤ, ◌+ℤ◌, ◌-ℤ◌, ℕ, ◌≤ℤ◌, Li
 use Rattle.std.proofs.lemmas.Int.{ints}
 use Rattle.std.specs.List.{AllZip, AllByRecursion}
 use Rattle.fold_theory.specs.declared.Cost.{Cost}
-use Rattle.lattice_theory.specs.Lists.{sum_zip, zip_with}
 use Rattle.lattice_theory.specs.Vectors.{Vector, ◌⊑◌, conforms, is_between, add, sub}
 use Rattle.lattice_laws.proofs.Tests.{and_true}
 use Rattle.fold_theory.specs.Costs.{value, IsConvexOn}
 use Rattle.fold_theory.specs.Programs.{Brick, Bricks, IsWithin, AreWithin, IsBrick, brick_cost}
 use Rattle.yes_laws.proofs.ConvexParts.{two_parts}
+use Rattle.lattice_theory.specs.Lists.{sum_zip, zip_with}
 
 -- ---- the columns of a brick
 

@@ -4,20 +4,17 @@ use Rattle.std.proofs.lemmas.Int.{ints}
 use Rattle.std.specs.List.{AllZip, AllByRecursion}
 use Rattle.fold_theory.specs.declared.Phase.{Phase}
 use Rattle.fold_theory.specs.declared.Phase.TheVariants.{Closed, Counted}
-use Rattle.lattice_theory.specs.Lists.{zip_with, total}
+use Rattle.lattice_theory.specs.Lists.{total, zip_with}
 use Rattle.lattice_theory.specs.Vectors.{Vector, ◌⊑◌, norm1, add, sub, zeros, dot}
 use Rattle.lattice_theory.specs.Matrices.{product}
-use Rattle.lattice_laws.proofs.Products.{dot-add, dot-zeros, rows-add, length-rows, length-zeros}
+use Rattle.lattice_laws.proofs.Products.{dot-add, dot-zeros, rows-add, length-rows, length-zeros, rows-sub}
 use Rattle.lattice_laws.proofs.Conformal.{length_below, norm_split, norm_none, length-add}
 use Rattle.fold_theory.specs.Programs.{Program, Brick, Bricks, IsBrick, AreWithin, link_rests, link_miss, keeps_equations, phase_cost}
-use Rattle.fold_laws.proofs.Agreement.{add_zeros, length-sub, sub_swap, same_vector}
+use Rattle.lattice_laws.proofs.Sums.{add_zeros, length-sub, sub_swap, same_vector, sub_itself, interchange, sub_interchange}
 use Rattle.fold_laws.proofs.Bounds.{within_parts}
 use Rattle.fold_laws.proofs.LinkMisses.{missed_parts, equations_kept}
-use Rattle.fold_laws.proofs.Residuals.{rows-sub}
-use Rattle.fold_laws.proofs.Terms.{sum_of, weight}
-use Rattle.fold_laws.proofs.Reductions.{AreSized}
-use Rattle.yes_laws.proofs.PieceCounts.{sub_itself}
-use Rattle.yes_laws.proofs.Combinations.{length-sum, interchange}
+use Rattle.lattice_laws.specs.VectorLists.{sum_of, weight, AreSized}
+use Rattle.lattice_laws.proofs.VectorLists.{length-sum}
 use Rattle.yes_laws.proofs.PointParts.{AreParts, forth, back, point_parts}
 
 -- ---- parts of the way from x to y
@@ -48,17 +45,6 @@ module _ (t : ℕ) where
   parts-sized (k ∷ h) [] below sized = absurd below
   parts-sized (k ∷ h) (d ∷ ds) below sized =
       (length_below k d below.0 ∙ sized.0, parts-sized h ds below.1 sized.1)
-
-  -- the order of a sum in a difference
-  sub_interchange : (a b c d : Vector) → sub (add a b) (add c d) ≡ add (sub a c) (sub b d)
-  sub_interchange [] b c d = refl
-  sub_interchange (a ∷ u) [] [] d = refl
-  sub_interchange (a ∷ u) [] (c ∷ w) d = refl
-  sub_interchange (a ∷ u) (b ∷ v) [] d = refl
-  sub_interchange (a ∷ u) (b ∷ v) (c ∷ w) [] = refl
-  sub_interchange (a ∷ u) (b ∷ v) (c ∷ w) (d ∷ z) =
-      let here : (a +ℤ b) -ℤ (c +ℤ d) ≡ (a -ℤ c) +ℤ (b -ℤ d) = omega (arith, ints) in
-      λ i. here i ∷ sub_interchange u v w z i
 
   -- the sums of x + h and of y - h
   pub sum-forth : (x h : Bricks) → length h ≡ length x → sum_of t (forth x h) ≡ add (sum_of t x) (sum_of t h)

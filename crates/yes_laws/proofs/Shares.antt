@@ -1,46 +1,18 @@
 -- Shares of a count: from count vectors that agree, and a vector q below their sum, a part of each such that the parts
 -- add up to q and no sum of the first parts is heavier than q. Those that come first serve first.
-use Rattle.std.proofs.Common.{◌≡◌, ℕ, zero, suc, ◌+◌, ◌<◌, ◌≤◌, ℤ, pos, negsuc, ◌+ℤ◌, ◌-ℤ◌, unsigned_abs, true, ◌&&◌, List, [], ◌∷◌, refl, ap, arith, sym, ◌∙◌, inl, inr}
+use Rattle.std.proofs.Common.{◌≡◌, ℕ, ◌+◌, ◌<◌, ◌≤◌, ℤ, ◌+ℤ◌, ◌-ℤ◌, unsigned_abs, true, ◌&&◌, List, [], ◌∷◌, refl, ap, arith, sym, ◌∙◌, inl, inr}
 use Rattle.std.proofs.lemmas.Int.{ints}
-use Rattle.std.proofs.lemmas.Bool.Decides.{nat_tests}
 use Rattle.std.proofs.lemmas.Bool.{cases_lt}
 use Rattle.std.specs.List.{AllZip}
-use Rattle.lattice_theory.specs.Vectors.{Vector, ◌⊑◌, conforms, is_between, norm1, add, sub, zeros}
-use Rattle.lattice_laws.proofs.Tests.{and_true, not_both}
-use Rattle.lattice_laws.proofs.Signs.{agrees, between_refl, clash, clash_some, IsPart, part_of, one_zero, abs_parts}
-use Rattle.lattice_laws.proofs.Conformal.{agree, length_below, add_rest, norm_none, norm_of_zero, norm_below, norm_split, norm_sum}
-use Rattle.lattice_laws.proofs.Products.{length-zeros, zeros_is, zero-zeros}
-use Rattle.fold_laws.proofs.Terms.{sum_of}
-use Rattle.fold_laws.proofs.Reductions.{AreSized}
-use Rattle.fold_laws.proofs.ConformalSums.{AreAgreeing, agree_all}
+use Rattle.lattice_theory.specs.Vectors.{Vector, ◌⊑◌, conforms, is_between, norm1, add, sub}
+use Rattle.lattice_laws.proofs.Tests.{and_true}
+use Rattle.lattice_laws.proofs.Signs.{agrees, between_refl, clash, IsPart, part_of, one_zero, abs_parts, between_of, no_clash}
+use Rattle.lattice_laws.proofs.Conformal.{agree, add_rest, norm_split, norm_sum}
+use Rattle.lattice_laws.specs.VectorLists.{sum_of, AreSized}
+use Rattle.lattice_laws.proofs.VectorLists.{AreAgreeing, agree_all}
+use Rattle.lattice_laws.proofs.Sums.{below_zeros}
 
 -- ---- numbers, by their positive and negative parts
-
-pub between_of : (a b : ℤ) → IsPart a b → is_between a b ≡ true
-between_of (pos a) (pos b) p = grind (arith, nat_tests, ints, p.ups)
-between_of (pos zero) (negsuc b) p = grind (arith, nat_tests, ints)
-between_of (pos (suc a)) (negsuc b) p = absurd (omega (arith, p.ups))
-between_of (negsuc a) (pos b) p = absurd (omega (arith, p.downs))
-between_of (negsuc a) (negsuc b) p = grind (arith, nat_tests, ints, p.downs)
-
-no_clash : (a b : ℤ) → agrees a b ≡ true → clash a b ≡ 0
-no_clash a b h = by (clash a b) refl
-  where
-    by : (n : ℕ) → clash a b ≡ n → n ≡ 0
-    by zero e = refl
-    by (suc n) e = absurd (not_both (agrees a b) h (clash_some a b (omega (arith, e))))
-
--- parts of two numbers that do not clash add up to a part of their sum
-sum_part : (a b c d : ℤ) → IsPart a c → IsPart b d → clash c d ≡ 0 → IsPart (a +ℤ b) (c +ℤ d)
-sum_part a b c d p q none = record {
-  ups = omega (arith, ints, p.ups, p.downs, q.ups, q.downs, none, one_zero c, one_zero d, one_zero (a +ℤ b));
-  downs = omega (arith, ints, p.ups, p.downs, q.ups, q.downs, none, one_zero c, one_zero d, one_zero (a +ℤ b));
-}
-
-between_parts : (a b c d : ℤ) → is_between a c ≡ true → is_between b d ≡ true → agrees c d ≡ true →
-    is_between (a +ℤ b) (c +ℤ d) ≡ true
-between_parts a b c d h k g =
-    between_of (a +ℤ b) (c +ℤ d) (sum_part a b c d (part_of a c h) (part_of b d k) (no_clash c d g))
 
 -- where q is a part of c + w and larger than c, c is a part of it, and what is left is one of w
 module _ (q c w : ℤ) (none : clash c w ≡ 0) (p : IsPart q (c +ℤ w)) where
@@ -97,26 +69,6 @@ clip q c w g h =
     ]
 
 -- ---- vectors
-
--- where s and t agree, parts of s and t add up to a part of s + t
-pub parts_sum : (u v s t : Vector) → u ⊑ s → v ⊑ t → agree s t ≡ true → add u v ⊑ add s t
-parts_sum [] v [] [] h k g = refl
-parts_sum [] v [] (d ∷ t) h k g = absurd (cc)
-parts_sum [] v (c ∷ s) t h k g = absurd (cc)
-parts_sum (a ∷ u) v [] t h k g = absurd (cc)
-parts_sum (a ∷ u) v (c ∷ s) [] h k g = absurd (cc)
-parts_sum (a ∷ u) [] (c ∷ s) (d ∷ t) h k g = absurd (cc)
-parts_sum (a ∷ u) (b ∷ v) (c ∷ s) (d ∷ t) h k g =
-    let p = and_true (is_between a c) (conforms u s) h in
-    let q = and_true (is_between b d) (conforms v t) k in
-    let r = and_true (agrees c d) (agree s t) g in
-    ap (λ x. x && conforms (add u v) (add s t)) (between_parts a b c d p.0 q.0 r.0) ∙ parts_sum u v s t p.1 q.1 r.1
-
--- below 0 stands only 0
-pub below_zeros : (q : Vector) (n : ℕ) → q ⊑ zeros n → q ≡ zeros n
-below_zeros q n h =
-    let none : norm1 q ≡ 0 = omega (arith, norm_below q (zeros n) h, norm_of_zero (zeros n) (zero-zeros n)) in
-    zeros_is q (norm_none q none) ∙ ap zeros (length_below q (zeros n) h ∙ length-zeros n)
 
 -- the same of vectors
 record Share (q c w : Vector) : Type 0 where

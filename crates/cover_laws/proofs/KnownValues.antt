@@ -1,9 +1,14 @@
--- The Graver basis at a matrix worked by hand: the row (1 2).
-use Rattle.std.specs.Prelude.{◌≡◌, pos, neg_ℤ, [], ◌∷◌, true, false, refl}
+-- Members of lattices and Graver bases at matrices worked by hand: the rows (1 1) and (1 2).
+use Rattle.std.specs.Prelude.{◌≡◌, pos, neg_ℤ, ◌∷◌, true, false, refl}
 use Rattle.lattice_theory.specs.Vectors.{conforms, is_zero}
 use Rattle.lattice_theory.specs.Matrices.{Matrix, product}
 use Rattle.lattice_theory.specs.Lattices.{kernel}
-use Rattle.graver_laws.specs.Graver.{IsInKernel}
+use Rattle.cover_laws.specs.Graver.{IsInKernel}
+use Rattle.lattice_theory.proofs.KnownValues.{minus, three}
+use Rattle.cover_laws.specs.Elements.{IsNonzeroElement}
+use Rattle.std.proofs.Common.{[]}
+
+-- ---- the Graver basis of the row (1 2)
 
 abbrev one_two : Matrix
 one_two = record { cols = 2; rows = (pos 1 ∷ pos 2 ∷ []) ∷ [] }
@@ -22,3 +27,18 @@ below_its_double = refl
 pub listed : kernel 2 ((pos 0 ∷ pos 1 ∷ pos 2 ∷ []) ∷ (pos 1 ∷ neg_ℤ (pos 1) ∷ neg_ℤ (pos 1) ∷ []) ∷ (pos 1 ∷ pos 0 ∷ pos 1 ∷ []) ∷ (pos 2 ∷ neg_ℤ (pos 1) ∷ pos 0 ∷ []) ∷ [])
     ≡ (pos 2 ∷ neg_ℤ (pos 1) ∷ []) ∷ []
 listed = refl
+
+-- ---- members
+
+-- the lattice of the matrix (1 1)
+abbrev pair : Matrix
+pair = record { cols = 2; rows = (pos 1 ∷ pos 1 ∷ []) ∷ [] }
+
+pub opposite_entries : IsNonzeroElement pair (three (pos 1) (minus 1) (pos 0))
+opposite_entries = record { member = record { size = refl; image = refl }; nonzero = refl }
+
+pub zero_is_none : IsNonzeroElement pair (three (pos 0) (pos 0) (pos 0)) → ⊥
+zero_is_none h = absurd (cc (h.nonzero))
+
+pub wrong_image_is_none : IsNonzeroElement pair (three (pos 1) (minus 1) (pos 1)) → ⊥
+wrong_image_is_none h = absurd (cc (h.member.image))

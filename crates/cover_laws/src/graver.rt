@@ -1,11 +1,10 @@
 //! What the kernel of a slack basis is, in words of the matrix alone.
-#![tactic(auto)]
 
 ghost use Rattle.std.specs.Prelude.{List, All, Contains, IsTrue};
 ghost use Rattle.lattice_theory.specs.Vectors.{Vector, leads_positive};
 ghost use Rattle.lattice_theory.specs.Matrices.{Matrix};
 ghost use Rattle.lattice_theory.specs.Lattices.{IsSlackBasis, kernel};
-ghost use Rattle.graver_laws.specs.Graver.{IsGraverElement};
+ghost use Rattle.cover_laws.specs.Graver.{IsGraverElement};
 
 /// Law: the kernel of the slack basis of a matrix has just the elements of the Graver basis of the matrix whose first
 /// entry that is not 0 is positive. The Graver basis is that of J. E. Graver, "On the foundations of linear and

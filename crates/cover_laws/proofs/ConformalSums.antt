@@ -1,40 +1,16 @@
 -- Sums of signed members of a list. Where two terms clash, and the sum of the two is one of lighter terms, the terms
 -- can be changed for lighter ones with the same sum, until none clash; then each term is below the sum.
-use Rattle.std.proofs.Common.{◌≡◌, ℕ, zero, suc, ◌+◌, ◌<◌, Bool, true, false, List, [], ◌∷◌, length, refl, ap, arith, sym, ◌∙◌, ◌⊎◌, inl, inr, subst}
-use Rattle.std.specs.List.{AllByRecursion}
-use Rattle.lattice_theory.specs.Vectors.{Vector, ◌⊑◌, norm1, add}
-use Rattle.lattice_laws.proofs.Conformal.{agree, agree_comm, conforms_trans, below_sum, add_comm_v}
-use Rattle.fold_laws.proofs.Agreement.{add_assoc_v, add_swap, agree_sum, agree_zeros, norm_clash}
-use Rattle.fold_laws.proofs.Terms.{sum_of, weight, weight_append, IsTerm, AreTerms, Spanned, Lightly, ConformalSum, spanned_add}
+use Rattle.std.proofs.Common.{◌≡◌, ℕ, zero, suc, ◌+◌, ◌<◌, Bool, true, false, List, ◌∷◌, refl, ap, arith, sym, ◌∙◌, ◌⊎◌, inl, inr, subst, []}
+use Rattle.lattice_theory.specs.Vectors.{Vector, norm1, add}
+use Rattle.lattice_laws.proofs.Conformal.{agree}
+use Rattle.lattice_laws.proofs.Sums.{add_assoc_v, add_swap}
+use Rattle.lattice_laws.proofs.Agreement.{norm_clash}
+use Rattle.lattice_laws.specs.VectorLists.{sum_of, weight}
+use Rattle.lattice_laws.proofs.VectorLists.{weight_append, AgreesWithAll, AreAgreeing, agreeing_below}
+use Rattle.cover_laws.specs.ConformalSums.{IsTerm, AreTerms, Spanned, ConformalSum}
+use Rattle.cover_laws.proofs.Terms.{Lightly, spanned_add, terms_sized}
 
 -- ---- terms that agree
-
--- e agrees with each of the vectors
-abbrev pub AgreesWithAll : Vector → List Vector → Type 0
-AgreesWithAll e es = AllByRecursion (λ f. agree e f ≡ true) es
-
--- every two of the terms agree
-abbrev pub AreAgreeing : List Vector → Type 0
-AreAgreeing [] = Unit {0}
-AreAgreeing (e ∷ es) = AgreesWithAll e es × AreAgreeing es
-
-pub agree_all : (n : ℕ) (e : Vector) (es : List Vector) → length e ≡ n → AgreesWithAll e es → agree e (sum_of n es) ≡ true
-agree_all n e [] size all = agree_zeros e n size
-agree_all n e (f ∷ es) size all = agree_sum e f (sum_of n es) all.0 (agree_all n e es size all.1)
-
-pub all_below : (u v : Vector) (es : List Vector) → u ⊑ v → AllByRecursion (λ f. f ⊑ u) es → AllByRecursion (λ f. f ⊑ v) es
-all_below u v [] h all = tt
-all_below u v (e ∷ es) h all = (conforms_trans e u v all.0 h, all_below u v es h all.1)
-
--- terms that agree are below their sum
-agreeing_below : (n : ℕ) (basis es : List Vector) → AreTerms n basis es → AreAgreeing es →
-    AllByRecursion (λ f. f ⊑ sum_of n es) es
-agreeing_below n basis [] s a = tt
-agreeing_below n basis (e ∷ es) s a =
-    let sum = sum_of n es in
-    let agrees : agree e sum ≡ true = agree_all n e es s.0.0 a.0 in
-    let up : sum ⊑ add e sum = subst (λ v. sum ⊑ v) (add_comm_v sum e) (below_sum sum e (agree_comm sum e ∙ agrees)) in
-    (below_sum e sum agrees, all_below sum (add e sum) es up (agreeing_below n basis es s.1 a.1))
 
 -- ---- terms that clash
 
@@ -149,7 +125,7 @@ conformal_sum n basis pairs z s =
         ConformalSum n basis (sum_of n es)
     settled zero es t light = absurd (omega arith)
     settled (suc bound) es t light = elim (clash_of n basis es t) [
-      | inl all ↦ (record { terms = es; signed = t; sum = refl }, agreeing_below n basis es t all)
+      | inl all ↦ (record { terms = es; signed = t; sum = refl }, agreeing_below n es (terms_sized n basis es t) all)
       | inr c ↦
           let r = exchanged n basis es c (pairs c.one c.two c.signed_one c.signed_two) in
           subst (ConformalSum n basis) r.0.sum (settled bound r.0.terms r.0.signed (omega (arith, r.1, light)))

@@ -1,18 +1,17 @@
 -- The kernel of a slack basis is the Graver basis of the matrix.
-use Rattle.std.proofs.Common.{◌≡◌, zero, suc, pos, negsuc, Bool, true, false, cond, List, [], ◌∷◌, ◌++◌, length, map, take, drop, refl, ap, sym, ◌∙◌, subst, arith, All, Contains, IsTrue}
+use Rattle.std.proofs.Common.{◌≡◌, zero, suc, pos, negsuc, Bool, true, false, cond, List, ◌∷◌, ◌++◌, length, map, take, drop, refl, ap, sym, ◌∙◌, subst, arith, All, Contains, IsTrue, []}
 use Rattle.std.specs.List.{AllByRecursion, filter}
 use Rattle.std.proofs.lemmas.List.{take_at, drop_at}
 use Rattle.std.proofs.lemmas.List.Elements.{recursion_from_All, All-from_recursion}
 use Rattle.lattice_theory.specs.Vectors.{Vector, ◌⊑◌, is_zero, leads_positive, zeros, norm1}
 use Rattle.lattice_theory.specs.Matrices.{Matrix, product, element}
 use Rattle.lattice_theory.specs.Lattices.{IsMinimal, IsSlackBasis, kernel}
-use Rattle.lattice_laws.proofs.Conformal.{conforms_refl, conforms-take, conforms-append, norm_below, norm_none, norm_of_zero, nonzero_by_take, leads-append, leads_nonzero}
+use Rattle.lattice_laws.proofs.Conformal.{conforms_refl, conforms-take, conforms-append, norm_below, norm_none, norm_of_zero, nonzero_by_take, leads-append, leads_nonzero, conforms-drop}
 use Rattle.lattice_laws.proofs.Tests.{not_both}
 use Rattle.lattice_laws.proofs.Products.{zeros_is, length-rows}
 use Rattle.lattice_laws.proofs.Elements.{element_in, is_element, first_size, first_nonzero}
-use Rattle.fold_laws.proofs.Parts.{conforms-drop}
-use Rattle.yes_laws.proofs.Generators.{in_kernel}
-use Rattle.graver_laws.specs.Graver.{IsGraverElement}
+use Rattle.cover_laws.proofs.Kernels.{in_kernel}
+use Rattle.cover_laws.specs.Graver.{IsGraverElement}
 
 -- what is below 0 is 0
 below_zero : (u v : Vector) → u ⊑ v → is_zero v ≡ true → is_zero u ≡ true

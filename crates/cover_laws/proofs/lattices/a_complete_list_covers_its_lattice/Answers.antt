@@ -1,5 +1,5 @@
-use Rattle.fold_laws.proofs.CompleteLists.{complete_covers, complete_elements}
-use Rattle.fold_laws.proofs.lattices.a_complete_list_covers_its_lattice.Goals as goal
+use Rattle.cover_laws.proofs.CompleteLists.{complete_covers, complete_elements}
+use Rattle.cover_laws.proofs.lattices.a_complete_list_covers_its_lattice.Goals as goal
 
 pub returns-clause-covers : goal.returns-clause-covers
 returns-clause-covers c = complete_covers

@@ -1,9 +1,8 @@
 -- A list that is complete for a lattice by Pottier's criterion gives each element of the lattice as a conformal sum of
 -- signed members, and so covers the lattice. After L. Pottier, "Minimal solutions of linear diophantine systems"
 -- (1991), and R. Hemmecke, "On the computation of Hilbert bases and extreme rays of cones" (2002).
-use Rattle.std.proofs.Common.{◌≡◌, ℕ, zero, suc, ◌+◌, ◌<◌, ◌≤◌, ℤ, pos, negsuc, ◌+ℤ◌, ◌*ℤ◌, Bool, true, ◌&&◌, nat_eq, List, [], ◌∷◌, ◌++◌, length, take, drop, refl, ap, arith, sym, ◌∙◌, Contains, inl, inr, subst, length-append}
+use Rattle.std.proofs.Common.{◌≡◌, ℕ, zero, suc, ◌+◌, ◌<◌, ◌≤◌, ℤ, pos, negsuc, ◌+ℤ◌, ◌*ℤ◌, Bool, true, ◌&&◌, nat_eq, List, ◌∷◌, ◌++◌, length, take, drop, refl, ap, arith, sym, ◌∙◌, Contains, inl, inr, subst, length-append, []}
 use Rattle.std.proofs.lemmas.Int.{ints}
-use Rattle.std.proofs.lemmas.Bool.Decides.{nat_tests}
 use Rattle.std.proofs.lemmas.Bool.{cases_eq}
 use Rattle.std.proofs.lemmas.List.{append-nil}
 use Rattle.std.proofs.Math.IntN.{zero-*ℤ, *ℤ-zero, suc_ℤ-*ℤ, *ℤ_comm}
@@ -13,19 +12,21 @@ use Rattle.lattice_theory.specs.Lists.{numbers_from}
 use Rattle.lattice_theory.specs.Vectors.{Vector, ◌⊑◌, is_rising, is_zero, leads_positive, same, add, sub, scale, zeros}
 use Rattle.lattice_theory.specs.Matrices.{Matrix, product, element, unit_vector}
 use Rattle.lattice_theory.specs.Lattices.{InLattice, is_complete_for, is_signed_element, reduces_to_zero}
-use Rattle.lattice_laws.proofs.Tests.{and_true, not_both, same_true}
-use Rattle.lattice_laws.proofs.Members.{contains_cases, contains_head, contains_tail}
+use Rattle.lattice_laws.proofs.Tests.{not_both, same_true, nat_eq_true, and_true}
+use Rattle.lattice_laws.proofs.Members.{contains_head, contains_tail, list_all_at}
 use Rattle.lattice_laws.proofs.Conformal.{leads_nonzero}
 use Rattle.lattice_laws.proofs.Products.{rows-zeros, length-zeros, zero-zeros, zeros-append}
 use Rattle.lattice_laws.proofs.Elements.{element-add, length-element, is_element, first_size, first_nonzero, width}
 use Rattle.lattice_laws.proofs.SlackBases.{Covers, IsReducible}
 use Rattle.lattice_laws.proofs.UnitVectors.{length-unit}
-use Rattle.fold_laws.specs.Elements.{IsNonzeroElement}
-use Rattle.fold_laws.proofs.Agreement.{zeros_add}
-use Rattle.fold_laws.proofs.Multiples.{scale_negsuc, scale-zeros, length-scale, scale-append, rows-scale}
-use Rattle.fold_laws.proofs.Terms.{sum_of, AreTerms, Spanned, Lightly, ConformalSum, none_spanned, spanned_add, lightly_times, lightly_opposite}
-use Rattle.fold_laws.proofs.ConformalSums.{conformal_sum}
-use Rattle.fold_laws.proofs.Reductions.{AreSized, PairsReduce, pairs_light, reduces_lightly}
+use Rattle.cover_laws.specs.Elements.{IsNonzeroElement}
+use Rattle.lattice_laws.proofs.Sums.{zeros_add}
+use Rattle.lattice_laws.proofs.Multiples.{scale_negsuc, scale-zeros, length-scale, scale-append, rows-scale}
+use Rattle.lattice_laws.specs.VectorLists.{sum_of}
+use Rattle.cover_laws.specs.ConformalSums.{AreTerms, Spanned, ConformalSum}
+use Rattle.cover_laws.proofs.Terms.{Lightly, none_spanned, spanned_add, lightly_times, lightly_opposite}
+use Rattle.cover_laws.proofs.ConformalSums.{conformal_sum}
+use Rattle.cover_laws.proofs.Reductions.{PairsReduce, pairs_light, reduces_lightly}
 
 -- ---- the elements of the unit vectors span the lattice
 
@@ -90,14 +91,6 @@ module _ (m : Matrix) (basis : List Vector) where
 
 -- ---- what the criterion says
 
--- a test that all pass
-pub list_all_at : {X : Type 0} (test : X → Bool) (xs : List X) (x : X) → list_all test xs ≡ true → Contains xs x →
-    test x ≡ true
-list_all_at test [] x h (k, low, e) = absurd (omega arith)
-list_all_at test (y ∷ xs) x h c =
-    let p = and_true (test y) (list_all test xs) h in
-    elim (contains_cases y xs x c) [ inl e ↦ subst (λ v. test v ≡ true) e p.0 | inr d ↦ list_all_at test xs x p.1 d ]
-
 -- the numbers below are among the numbers
 numbered : (a n j : ℕ) → a ≤ j → j < a + n → Contains (numbers_from a n) j
 numbered a zero j from to = absurd (omega arith)
@@ -117,9 +110,6 @@ signed_element m z h =
       image = same_true (drop m.cols z) (product m v) p.1;
     } in
     record { member = inside; nonzero = first_nonzero m z inside (leads_nonzero z q.0) }
-  where
-    nat_eq_true : (a b : ℕ) → nat_eq a b ≡ true → a ≡ b
-    nat_eq_true a b h = grind (arith, nat_tests)
 
 -- the parts of the criterion
 record IsComplete (m : Matrix) (basis : List Vector) : Type 0 where
@@ -180,7 +170,7 @@ complete_elements m basis h = All-from_recursion (IsNonzeroElement m) basis (cri
 pub complete_conformal : (m : Matrix) (basis : List Vector) → is_complete_for m basis ≡ true →
     (z : Vector) → InLattice m z → ConformalSum (width m) basis z
 complete_conformal m basis h z inside =
-    conformal_sum (width m) basis (pairs_light (width m) basis sized c.pairs) z
+    conformal_sum (width m) basis (pairs_light (width m) basis c.pairs) z
     (subst (Spanned (width m) basis) (sym (is_element m z inside)) (spans m basis units 0 (take m.cols z) size))
   where
     c : IsComplete m basis
@@ -189,18 +179,11 @@ complete_conformal m basis h z inside =
     size : 0 + length (take m.cols z) ≡ m.cols
     size = omega (arith, first_size m z inside)
 
-    sizes : (vs : List Vector) → AllByRecursion (IsNonzeroElement m) vs → AreSized (width m) vs
-    sizes [] all = tt
-    sizes (v ∷ vs) all = (all.0.member.size, sizes vs all.1)
-
-    sized : AreSized (width m) basis
-    sized = sizes basis c.elements
-
     units : (j : ℕ) → j < m.cols → Lightly (width m) basis (element m (unit_vector m.cols j))
     units j low =
         let unit = unit_vector m.cols j in
         let long = length-element m unit (length-unit m.cols j) in
-        reduces_lightly (width m) basis sized (element m unit) long (c.units j low)
+        reduces_lightly (width m) basis (element m unit) long (c.units j low)
 
 -- a complete list covers its lattice
 pub complete_covers : (m : Matrix) (basis : List Vector) → is_complete_for m basis ≡ true → Covers m basis

@@ -1,50 +1,53 @@
 -- Reductions: what reduces to 0 is a sum of signed members that weigh no more, and Pottier's criterion on a list makes
 -- the sum of each two signed members such a sum.
-use Rattle.std.proofs.Common.{◌≡◌, ℕ, zero, suc, ◌+◌, ◌≤◌, pos, Bool, true, false, cond, Option, Some, None, List, [], ◌∷◌, length, refl, ap, arith, sym, ◌∙◌, Contains, inl, inr, subst}
-use Rattle.std.specs.List.{AllByRecursion}
+use Rattle.std.proofs.Common.{◌≡◌, ℕ, zero, suc, ◌+◌, ◌≤◌, pos, Bool, true, false, cond, Option, Some, None, List, ◌∷◌, length, refl, ap, arith, sym, ◌∙◌, Contains, inl, inr, subst, []}
 use Rattle.lattice_theory.specs.Vectors.{Vector, ◌⊑◌, conforms, is_zero, norm1, add, sub, scale, opposite, zeros}
 use Rattle.lattice_theory.specs.Lattices.{first_below, reduced_within, reduces_to_zero, greatest_multiple}
 use Rattle.lattice_laws.proofs.Members.{contains_head, contains_tail}
 use Rattle.lattice_laws.proofs.Conformal.{length-add, length_below, rest_below, add_rest, norm_split, length-opposite, opposite-opposite, opposite-add, sub-opposite}
 use Rattle.lattice_laws.proofs.Products.{zeros_is}
 use Rattle.lattice_laws.proofs.SlackBases.{IsSigned}
-use Rattle.fold_laws.proofs.Agreement.{length-sub}
-use Rattle.fold_laws.proofs.Terms.{IsTerm, Lightly, none_spanned, lightly_add, lightly_times, lightly_opposite, term_lightly}
-use Rattle.fold_laws.proofs.Multiples.{greatest_below}
-use Rattle.fold_laws.proofs.ConformalSums.{PairsAreLight}
-
--- each vector has n entries
-abbrev pub AreSized : ℕ → List Vector → Type 0
-AreSized n vs = AllByRecursion (λ v. length v ≡ n) vs
+use Rattle.lattice_laws.proofs.Sums.{length-sub}
+use Rattle.cover_laws.specs.ConformalSums.{IsTerm}
+use Rattle.cover_laws.proofs.Terms.{Lightly, none_spanned, lightly_add, lightly_times, lightly_opposite, term_lightly}
+use Rattle.lattice_laws.proofs.Multiples.{greatest_below}
+use Rattle.cover_laws.proofs.ConformalSums.{PairsAreLight}
 
 -- ---- one turn
 
--- what is found below z is below it, and a signed member
-found_below : (n : ℕ) (all basis : List Vector) (z e : Vector) → ((m : Vector) → Contains basis m → Contains all m) →
-    AreSized n basis → first_below basis z ≡ Some e → IsTerm n all e × (e ⊑ z)
-found_below n all [] z e inside sized h = absurd (cc)
-found_below n all (m ∷ basis) z e inside sized h =
-    by (conforms m z) (conforms (opposite m) z) refl refl h
-    (λ k. found_below n all basis z e (λ v c. inside v (contains_tail m basis v c)) sized.1 k)
+-- the vector found below z is a signed member below z
+pub record IsFound (basis : List Vector) (z e : Vector) : Type 0 where
+  pub signed : IsSigned basis e
+  pub below : e ⊑ z
+
+pub found : (basis : List Vector) (z e : Vector) → first_below basis z ≡ Some e → IsFound basis z e
+found [] z e h = absurd (cc)
+found (m ∷ basis) z e h = by (conforms m z) (conforms (opposite m) z) refl refl h (λ k. further (found basis z e k))
   where
-    here : Contains all m
-    here = inside m (contains_head m basis)
+    further : IsFound basis z e → IsFound (m ∷ basis) z e
+    further r = record { signed = wider r.signed; below = r.below }
+      where
+        wider : IsSigned basis e → IsSigned (m ∷ basis) e
+        wider (inl c) = inl (contains_tail m basis e c)
+        wider (inr c) = inr (contains_tail m basis (opposite e) c)
 
     by : (s t : Bool) → conforms m z ≡ s → conforms (opposite m) z ≡ t →
         cond s (Some m) (cond t (Some (opposite m)) (first_below basis z)) ≡ Some e →
-        (first_below basis z ≡ Some e → IsTerm n all e × (e ⊑ z)) → IsTerm n all e × (e ⊑ z)
+        (first_below basis z ≡ Some e → IsFound (m ∷ basis) z e) → IsFound (m ∷ basis) z e
     by true t p q k rest =
         let same : m ≡ e = cc in
-        subst (λ v. IsTerm n all v × (v ⊑ z)) same ((sized.0, inl here), p)
+        subst (IsFound (m ∷ basis) z) same (record { signed = inl (contains_head m basis); below = p })
     by false true p q k rest =
         let same : opposite m ≡ e = cc in
-        subst (λ v. IsTerm n all v × (v ⊑ z)) same
-        ((length-opposite m ∙ sized.0, inr (subst (Contains all) (sym (opposite-opposite m)) here)), q)
+        subst (IsFound (m ∷ basis) z) same (record {
+          signed = inr (subst (Contains (m ∷ basis)) (sym (opposite-opposite m)) (contains_head m basis));
+          below = q;
+        })
     by false false p q k rest = rest k
 
 -- ---- all turns
 
-module _ (n : ℕ) (basis : List Vector) (sized : AreSized n basis) where
+module _ (n : ℕ) (basis : List Vector) where
   zero_lightly : (z : Vector) → length z ≡ n → is_zero z ≡ true → Lightly n basis z
   zero_lightly z size h =
       subst (Lightly n basis) (ap zeros (sym size) ∙ sym (zeros_is z h)) (none_spanned n basis, omega arith)
@@ -74,11 +77,12 @@ module _ (n : ℕ) (basis : List Vector) (sized : AreSized n basis) where
           is_zero (turned o) ≡ true → Lightly n basis z
       by None p next k = zero_lightly z size k
       by (Some e) p next k =
-          let found = found_below n basis basis z e (λ m c. c) sized p in
+          let f = found basis z e p in
+          let term : IsTerm n basis e = (length_below e z f.below ∙ size, f.signed) in
           let part = scale (pos (greatest_multiple e z)) e in
-          let below : part ⊑ z = greatest_below e z found.1 in
+          let below : part ⊑ z = greatest_below e z f.below in
           let left : length (sub z part) ≡ n = length_below (sub z part) z (rest_below part z below) ∙ size in
-          turn_lightly z e (greatest_multiple e z) found.0 below (next (sub z part) left k)
+          turn_lightly z e (greatest_multiple e z) term below (next (sub z part) left k)
 
   pub reduces_lightly : (z : Vector) → length z ≡ n → reduces_to_zero basis z ≡ true → Lightly n basis z
   reduces_lightly z size h = reduced_lightly (norm1 z) z size h
@@ -90,8 +94,8 @@ abbrev pub PairsReduce : List Vector → Type 0
 PairsReduce basis = (a b : Vector) → Contains basis a → Contains basis b →
     (reduces_to_zero basis (add a b) ≡ true) × (reduces_to_zero basis (sub a b) ≡ true)
 
-pub pairs_light : (n : ℕ) (basis : List Vector) → AreSized n basis → PairsReduce basis → PairsAreLight n basis
-pairs_light n basis sized reduce a b (la, sa) (lb, sb) = by sa sb
+pub pairs_light : (n : ℕ) (basis : List Vector) → PairsReduce basis → PairsAreLight n basis
+pairs_light n basis reduce a b (la, sa) (lb, sb) = by sa sb
   where
     oa : length (opposite a) ≡ n
     oa = length-opposite a ∙ la
@@ -101,13 +105,13 @@ pairs_light n basis sized reduce a b (la, sa) (lb, sb) = by sa sb
 
     plus : (p q : Vector) → Contains basis p → Contains basis q → length p ≡ n → length q ≡ n →
         Lightly n basis (add p q)
-    plus p q c d lp lq = reduces_lightly n basis sized (add p q) (length-add p q n lp lq) (reduce p q c d).0
+    plus p q c d lp lq = reduces_lightly n basis (add p q) (length-add p q n lp lq) (reduce p q c d).0
 
     less : (p q : Vector) → Contains basis p → Contains basis q → length p ≡ n → length q ≡ n →
         Lightly n basis (add p (opposite q))
     less p q c d lp lq =
         subst (Lightly n basis) (sub-opposite p q)
-        (reduces_lightly n basis sized (sub p q) (length-sub p q n lp lq) (reduce p q c d).1)
+        (reduces_lightly n basis (sub p q) (length-sub p q n lp lq) (reduce p q c d).1)
 
     turned : Lightly n basis (add (opposite a) (opposite b)) → Lightly n basis (add a b)
     turned l =

@@ -1,5 +1,5 @@
--- Multiples of a vector, and that the greatest one found for a vector above it is below that vector.
-use Rattle.std.proofs.Common.{◌≡◌, ℕ, zero, suc, ◌*◌, ◌≤◌, ◌/◌, ℤ, pos, negsuc, ◌+ℤ◌, ◌*ℤ◌, neg_ℤ, unsigned_abs, true, ◌&&◌, min, fold, List, [], ◌∷◌, ◌++◌, length, map, refl, ap, arith, sym, ◌∙◌}
+-- Multiples of vectors: as sums, of sums, their norms and products, and the greatest one below a vector.
+use Rattle.std.proofs.Common.{◌≡◌, ℕ, zero, suc, ◌*◌, ◌≤◌, ◌/◌, ℤ, pos, negsuc, ◌+ℤ◌, ◌*ℤ◌, neg_ℤ, unsigned_abs, true, ◌&&◌, min, fold, List, ◌∷◌, ◌++◌, length, map, refl, ap, arith, sym, ◌∙◌, []}
 use Rattle.std.specs.List.{AllByRecursion}
 use Rattle.std.proofs.lemmas.Int.{ints, unsigned_abs-mul}
 use Rattle.std.proofs.lemmas.Bool.Decides.{nat_tests}
@@ -10,6 +10,9 @@ use Rattle.lattice_theory.specs.Lattices.{multiples, least_of, greatest_multiple
 use Rattle.lattice_laws.proofs.Tests.{and_true}
 use Rattle.lattice_laws.proofs.Products.{times_sum, times_opposite}
 use Rattle.lattice_laws.proofs.Conformal.{norm1-cons}
+use borrow.Author.Differences.{up, down}
+use Rattle.lattice_laws.proofs.Signs.{IsPart, part_of, between_of}
+use Rattle.lattice_laws.proofs.Sums.{add_zeros}
 
 -- ---- the greatest multiple
 
@@ -124,3 +127,88 @@ pub rows-scale : (rows : List Vector) (a : ℤ) (u : Vector) →
     map (λ row. dot row (scale a u)) rows ≡ scale a (map (λ row. dot row u) rows)
 rows-scale [] a u = refl
 rows-scale (row ∷ rows) a u = λ i. dot-scale a row u i ∷ rows-scale rows a u i
+
+-- ---- multiples of one vector
+
+-- multiples of one generator add up
+times_sum_left : (a b x : ℤ) → (a +ℤ b) *ℤ x ≡ a *ℤ x +ℤ b *ℤ x
+times_sum_left a b x = omega (arith, ints, *ℤ_comm (a +ℤ b) x, *ℤ_comm a x, *ℤ_comm b x, times_sum x a b)
+
+pub scale-sum : (a b : ℤ) (g : Vector) → scale (a +ℤ b) g ≡ add (scale a g) (scale b g)
+scale-sum a b [] = refl
+scale-sum a b (x ∷ g) = λ i. times_sum_left a b x i ∷ scale-sum a b g i
+
+pub scale_once : (g : Vector) → scale (pos 1) g ≡ g
+scale_once g = scale_suc 0 g ∙ ap (add g) (scale_zero g) ∙ add_zeros g (length g) refl
+
+pub scale_back : (g : Vector) → scale (negsuc 0) g ≡ opposite g
+scale_back g = sym (scale_negsuc 0 g) ∙ ap opposite (scale_once g)
+
+pub scale-add : (a : ℤ) (u v : Vector) → scale a (add u v) ≡ add (scale a u) (scale a v)
+scale-add a [] v = refl
+scale-add a (b ∷ u) [] = refl
+scale-add a (b ∷ u) (c ∷ v) = λ i. times_sum a b c i ∷ scale-add a u v i
+
+-- a multiple of the opposite
+pub scale-turned : (n : ℕ) (g : Vector) → scale (pos n) (opposite g) ≡ opposite (scale (pos n) g)
+scale-turned n [] = refl
+scale-turned n (a ∷ g) = λ i. times_opposite (pos n) a i ∷ scale-turned n g i
+
+-- ---- parts of a number give parts of the multiple
+
+-- the positive and the negative part of a product
+up_times : (m : ℕ) (x : ℤ) → up (pos m *ℤ x) ≡ m * up x
+up_times m (pos k) = grind (arith, ints)
+up_times m (negsuc k) = grind (arith, ints)
+
+down_times : (m : ℕ) (x : ℤ) → down (pos m *ℤ x) ≡ m * down x
+down_times m (pos k) = grind (arith, ints)
+down_times m (negsuc k) = grind (arith, ints)
+
+up_turned : (m : ℕ) (x : ℤ) → up (negsuc m *ℤ x) ≡ suc m * down x
+up_turned m (pos k) = grind (arith, ints)
+up_turned m (negsuc k) = grind (arith, ints)
+
+down_turned : (m : ℕ) (x : ℤ) → down (negsuc m *ℤ x) ≡ suc m * up x
+down_turned m (pos k) = grind (arith, ints)
+down_turned m (negsuc k) = grind (arith, ints)
+
+le_times : (m n k : ℕ) → m ≤ n → m * k ≤ n * k
+le_times zero n k h = omega arith
+le_times (suc m) zero k h = absurd (omega arith)
+le_times (suc m) (suc n) k h = omega (arith, le_times m n k (omega arith))
+
+-- a part of a number times another one
+part_times : (a c x : ℤ) → is_between a c ≡ true → is_between (a *ℤ x) (c *ℤ x) ≡ true
+part_times a c x h = between_of (a *ℤ x) (c *ℤ x) (by a c (part_of a c h))
+  where
+    by : (a c : ℤ) → IsPart a c → IsPart (a *ℤ x) (c *ℤ x)
+    by (pos m) (pos n) p = record {
+      ups = omega (arith, up_times m x, up_times n x, le_times m n (up x) p.ups);
+      downs = omega (arith, down_times m x, down_times n x, le_times m n (down x) p.ups);
+    }
+    by (pos zero) (negsuc n) p = record { ups = omega (arith, up_times 0 x); downs = omega (arith, down_times 0 x) }
+    by (pos (suc m)) (negsuc n) p = absurd (omega (arith, p.ups))
+    by (negsuc m) (pos n) p = absurd (omega (arith, p.downs))
+    by (negsuc m) (negsuc n) p = record {
+      ups = omega (arith, up_turned m x, up_turned n x, le_times (suc m) (suc n) (down x) p.downs);
+      downs = omega (arith, down_turned m x, down_turned n x, le_times (suc m) (suc n) (up x) p.downs);
+    }
+
+-- parts of the number give parts of the multiple
+pub scale-below : (a c : ℤ) (g : Vector) → is_between a c ≡ true → scale a g ⊑ scale c g
+scale-below a c [] h = refl
+scale-below a c (x ∷ g) h =
+    ap (λ t. t && conforms (scale a g) (scale c g)) (part_times a c x h) ∙ scale-below a c g h
+
+-- the norm of a multiple
+pub norm-scale-abs : (x : ℤ) (g : Vector) → norm1 (scale x g) ≡ unsigned_abs x * norm1 g
+norm-scale-abs x [] = omega arith
+norm-scale-abs x (y ∷ g) =
+    omega (
+      arith,
+      norm1-cons (x *ℤ y) (scale x g),
+      ap (λ k. unsigned_abs x * k) (norm1-cons y g),
+      unsigned_abs-mul x y,
+      norm-scale-abs x g,
+    )

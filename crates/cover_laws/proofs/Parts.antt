@@ -1,26 +1,17 @@
 -- Parts of a vector by a list that is complete for a lattice: vectors that are not 0 and whose elements are conformally
 -- below that of the vector.
-use Rattle.std.proofs.Common.{◌≡◌, ℕ, zero, suc, true, false, List, [], ◌∷◌, length, take, drop, refl, ap, arith, sym, ◌∙◌, Contains, ◌⊎◌, inl, inr, subst}
+use Rattle.std.proofs.Common.{◌≡◌, ℕ, true, false, List, length, take, drop, ap, sym, ◌∙◌, Contains, ◌⊎◌, inl, inr, subst}
 use Rattle.std.proofs.lemmas.List.{take_at, drop_at}
 use Rattle.std.proofs.lemmas.List.Elements.{All-contains}
-use Rattle.lattice_theory.specs.Vectors.{Vector, ◌⊑◌, conforms, is_between, is_zero, opposite}
+use Rattle.lattice_theory.specs.Vectors.{Vector, ◌⊑◌, is_zero, opposite}
 use Rattle.lattice_theory.specs.Matrices.{Matrix, product, element}
 use Rattle.lattice_theory.specs.Lattices.{InLattice, is_complete_for, first_parts}
-use Rattle.lattice_laws.proofs.Tests.{and_true}
-use Rattle.lattice_laws.proofs.Members.{contains_cases, contains_head, contains_tail}
-use Rattle.lattice_laws.proofs.Conformal.{conforms-take, opposite-opposite, opposite_nonzero, opposite-take, nonzero_by_take}
+use Rattle.lattice_laws.proofs.Conformal.{conforms-take, opposite-opposite, opposite_nonzero, opposite-take, nonzero_by_take, conforms-drop}
 use Rattle.lattice_laws.proofs.Elements.{closed_opposite, element_in}
 use Rattle.lattice_laws.proofs.SlackBases.{IsSigned}
-use Rattle.fold_laws.specs.Elements.{IsNonzeroElement}
-use Rattle.fold_laws.proofs.CompleteLists.{complete_covers, complete_elements}
-
--- the entries behind the first ones, of a vector below
-pub conforms-drop : (n : ℕ) (u v : Vector) → u ⊑ v → drop n u ⊑ drop n v
-conforms-drop zero u v h = h
-conforms-drop (suc n) [] [] h = refl
-conforms-drop (suc n) [] (b ∷ v) h = absurd (cc)
-conforms-drop (suc n) (a ∷ u) [] h = absurd (cc)
-conforms-drop (suc n) (a ∷ u) (b ∷ v) h = conforms-drop n u v (and_true (is_between a b) (conforms u v) h).1
+use Rattle.cover_laws.specs.Elements.{IsNonzeroElement}
+use Rattle.cover_laws.proofs.CompleteLists.{complete_covers, complete_elements}
+use Rattle.lattice_laws.proofs.Members.{mapped}
 
 -- a vector that is not 0 and whose element is below that of d; it is the first part of a member, as it is or with its
 -- signs turned
@@ -43,12 +34,7 @@ nonzero_turned m z h = record {
 -- the first part of a member is among the first parts
 pub first_listed : (n : ℕ) (basis : List Vector) (e : Vector) → Contains basis e →
     Contains (first_parts n basis) (take n e)
-first_listed n [] e (k, low, f) = absurd (omega arith)
-first_listed n (z ∷ basis) e c = elim (contains_cases z basis e c) [
-  | inl f ↦
-      subst (λ w. Contains (first_parts n (z ∷ basis)) (take n w)) f (contains_head (take n z) (first_parts n basis))
-  | inr d ↦ contains_tail (take n z) (first_parts n basis) (take n e) (first_listed n basis e d)
-]
+first_listed n basis e listed = mapped (take n) basis e listed
 
 -- a complete list has a part of each vector that is not 0
 pub part_of_complete : (m : Matrix) (basis : List Vector) → is_complete_for m basis ≡ true →

@@ -1,6 +1,6 @@
 -- A slack basis is complete for its lattice: each element of the lattice reduces to 0 by it, since a reduction ends
 -- only where no member is below, and the basis covers the lattice.
-use Rattle.std.proofs.Common.{◌≡◌, ℕ, zero, suc, ◌+◌, ◌*◌, ◌<◌, ◌≤◌, ◌/◌, ℤ, pos, negsuc, unsigned_abs, Bool, true, false, ◌&&◌, cond, min, fold, nat_eq, List, [], ◌∷◌, ◌++◌, length, take, drop, Option, Some, None, refl, ap, arith, sym, ◌∙◌, Contains, inl, inr, subst}
+use Rattle.std.proofs.Common.{◌≡◌, ℕ, zero, suc, ◌+◌, ◌*◌, ◌<◌, ◌≤◌, ◌/◌, ℤ, pos, negsuc, unsigned_abs, Bool, true, false, ◌&&◌, cond, min, fold, nat_eq, List, ◌∷◌, ◌++◌, length, take, drop, Option, Some, None, refl, ap, arith, sym, ◌∙◌, Contains, inl, inr, subst, []}
 use Rattle.std.proofs.lemmas.Bool.Decides.{nat_tests}
 use Rattle.std.proofs.lemmas.List.Elements.{All-contains}
 use Rattle.std.proofs.Math.Nat.{le-div_iff_mul-le}
@@ -10,15 +10,16 @@ use Rattle.lattice_theory.specs.Vectors.{Vector, ◌⊑◌, conforms, is_between
 use Rattle.lattice_theory.specs.Matrices.{Matrix, product, element, unit_vector}
 use Rattle.lattice_theory.specs.Lattices.{InLattice, IsSlackBasis, multiples, greatest_multiple, first_below, reduced_within, reduces_to_zero, is_signed_element, is_complete_for}
 use Rattle.lattice_theory.specs.BasisLimits.{IsBasisElement}
-use Rattle.lattice_laws.proofs.Tests.{and_true, not_both, true_or_false, same_refl}
-use Rattle.lattice_laws.proofs.Members.{contains_cases, contains_head, contains_tail}
+use Rattle.lattice_laws.proofs.Tests.{not_both, true_or_false, same_refl, and_true, nat_eq_of}
+use Rattle.lattice_laws.proofs.Members.{contains_cases, list_all_of}
 use Rattle.lattice_laws.proofs.Conformal.{norm_none, norm_some, norm_split, opposite-opposite, opposite_nonzero}
 use Rattle.lattice_laws.proofs.Products.{rows-zeros, length-zeros, zeros-append}
 use Rattle.lattice_laws.proofs.Elements.{element_in, closed_add, closed_sub, closed_opposite}
 use Rattle.lattice_laws.proofs.SlackBases.{IsSigned, slack_basis_covers}
 use Rattle.lattice_laws.proofs.UnitVectors.{length-unit}
-use Rattle.fold_laws.proofs.Multiples.{greatest_below, scale_zero, scale_suc, norm-scale}
-use Rattle.certificate_laws.proofs.Passing.{list_all_of, and_of, nat_eq_of}
+use Rattle.lattice_laws.proofs.Multiples.{greatest_below, scale_zero, scale_suc, norm-scale}
+use Rattle.cover_laws.proofs.Reductions.{found}
+use Rattle.std.proofs.lemmas.Bool.{and_from}
 
 -- ---- the greatest multiple is at least 1
 
@@ -58,36 +59,6 @@ multiple_some (negsuc n ∷ e) (b ∷ v) nonzero h =
     least_fits (unsigned_abs b / suc n) (multiples e v) all.0 all.1
 
 -- ---- what is found below
-
--- the vector found below z is a signed member below z
-record IsFound (basis : List Vector) (z e : Vector) : Type 0 where
-  signed : IsSigned basis e
-  below : e ⊑ z
-
-found : (basis : List Vector) (z e : Vector) → first_below basis z ≡ Some e → IsFound basis z e
-found [] z e h = absurd (cc)
-found (m ∷ basis) z e h = by (conforms m z) (conforms (opposite m) z) refl refl h (λ k. further (found basis z e k))
-  where
-    further : IsFound basis z e → IsFound (m ∷ basis) z e
-    further r = record { signed = wider r.signed; below = r.below }
-      where
-        wider : IsSigned basis e → IsSigned (m ∷ basis) e
-        wider (inl c) = inl (contains_tail m basis e c)
-        wider (inr c) = inr (contains_tail m basis (opposite e) c)
-
-    by : (s t : Bool) → conforms m z ≡ s → conforms (opposite m) z ≡ t →
-        cond s (Some m) (cond t (Some (opposite m)) (first_below basis z)) ≡ Some e →
-        (first_below basis z ≡ Some e → IsFound (m ∷ basis) z e) → IsFound (m ∷ basis) z e
-    by true t p q k rest =
-        let same : m ≡ e = cc in
-        subst (IsFound (m ∷ basis) z) same (record { signed = inl (contains_head m basis); below = p })
-    by false true p q k rest =
-        let same : opposite m ≡ e = cc in
-        subst (IsFound (m ∷ basis) z) same (record {
-          signed = inr (subst (Contains (m ∷ basis)) (sym (opposite-opposite m)) (contains_head m basis));
-          below = q;
-        })
-    by false false p q k rest = rest k
 
 -- where none is found, no signed member is below z
 none_below : (basis : List Vector) (z e : Vector) → first_below basis z ≡ None → IsSigned basis e → e ⊑ z → ⊥
@@ -191,8 +162,8 @@ module _ (m : Matrix) (basis : List Vector) (slack : IsSlackBasis m basis) where
   is_signed z h =
       let leads = leads_positive z in
       let sized = nat_eq (length z) (m.cols + length m.rows) in
-      let both = and_of leads sized h.1 (nat_eq_of (length z) (m.cols + length m.rows) h.0.member.size) in
-      and_of (leads && sized) (same (drop m.cols z) (product m (take m.cols z))) both
+      let both = and_from leads sized h.1 (nat_eq_of (length z) (m.cols + length m.rows) h.0.member.size) in
+      and_from (leads && sized) (same (drop m.cols z) (product m (take m.cols z))) both
       (ap (λ v. same (drop m.cols z) v) (sym h.0.member.image) ∙ same_refl (drop m.cols z))
 
   abbrev unit_reduces : ℕ → Bool
@@ -212,7 +183,7 @@ module _ (m : Matrix) (basis : List Vector) (slack : IsSlackBasis m basis) where
   pairs =
       list_all_of (λ a. list_all (pair_reduces a) basis) basis
       (λ a c. list_all_of (pair_reduces a) basis (λ b d.
-      and_of (reduces_to_zero basis (add a b)) (reduces_to_zero basis (sub a b))
+      and_from (reduces_to_zero basis (add a b)) (reduces_to_zero basis (sub a b))
       (basis_reduces m basis slack (add a b) (closed_add m a b (member_in a c) (member_in b d)))
       (basis_reduces m basis slack (sub a b) (closed_sub m b a (member_in b d) (member_in a c)))))
 
@@ -224,6 +195,6 @@ module _ (m : Matrix) (basis : List Vector) (slack : IsSlackBasis m basis) where
       let upto = list_all unit_reduces (numbers_from 0 m.cols) in
       let signed =
       list_all_of (is_signed_element m) basis (λ z c. is_signed z (basis_element m basis slack z c)) in
-      let listed = and_of each rising signed slack.rising in
-      and_of (each && rising && upto) (list_all (λ a. list_all (pair_reduces a) basis) basis)
-      (and_of (each && rising) upto listed units) pairs
+      let listed = and_from each rising signed slack.rising in
+      and_from (each && rising && upto) (list_all (λ a. list_all (pair_reduces a) basis) basis)
+      (and_from (each && rising) upto listed units) pairs

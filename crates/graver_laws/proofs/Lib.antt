@@ -1,2 +1,0 @@
-mod Kernels
-mod KnownValues

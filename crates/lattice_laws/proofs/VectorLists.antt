@@ -1,0 +1,83 @@
+-- Lists of vectors: their sum, their weight, and lists whose vectors agree with each other.
+use Rattle.std.proofs.Common.{◌≡◌, ℕ, ◌+◌, ◌≤◌, List, ◌∷◌, ◌++◌, length, map, refl, ap, arith, sym, ◌∙◌, subst, true, []}
+use Rattle.std.specs.List.{AllByRecursion}
+use Rattle.lattice_theory.specs.Vectors.{Vector, ◌⊑◌, norm1, add, opposite}
+use Rattle.lattice_laws.proofs.Conformal.{length-add, opposite-add, norm-opposite, agree, agree_comm, conforms_trans, below_sum, add_comm_v, agree_parts, norm_agree, norm_sum}
+use Rattle.lattice_laws.proofs.Products.{length-zeros}
+use Rattle.lattice_laws.proofs.Sums.{add_assoc_v, zeros_add, opposite-zeros, norm-zeros}
+use Rattle.lattice_laws.proofs.Agreement.{agree_sum, agree_zeros}
+use Rattle.lattice_laws.specs.VectorLists.{sum_of, weight, AreSized}
+
+-- ---- their sum and their weight
+
+pub length-sum : (n : ℕ) (us : List Vector) → AreSized n us → length (sum_of n us) ≡ n
+length-sum n [] sized = length-zeros n
+length-sum n (u ∷ us) sized = length-add u (sum_of n us) n sized.0 (length-sum n us sized.1)
+
+pub sum_append : (n : ℕ) (es fs : List Vector) → AreSized n fs → sum_of n (es ++ fs) ≡ add (sum_of n es) (sum_of n fs)
+sum_append n [] fs sized = sym (zeros_add (sum_of n fs) n (length-sum n fs sized))
+sum_append n (e ∷ es) fs sized = ap (add e) (sum_append n es fs sized) ∙ add_assoc_v e (sum_of n es) (sum_of n fs)
+
+pub weight_append : (es fs : List Vector) → weight (es ++ fs) ≡ weight es + weight fs
+weight_append [] fs = omega arith
+weight_append (e ∷ es) fs = omega (arith, weight_append es fs)
+
+pub turned_sum : (n : ℕ) (es : List Vector) → sum_of n (map opposite es) ≡ opposite (sum_of n es)
+turned_sum n [] = sym (opposite-zeros n)
+turned_sum n (e ∷ es) = ap (add (opposite e)) (turned_sum n es) ∙ sym (opposite-add e (sum_of n es))
+
+pub turned_weight : (es : List Vector) → weight (map opposite es) ≡ weight es
+turned_weight [] = refl
+turned_weight (e ∷ es) = omega (arith, norm-opposite e, turned_weight es)
+
+-- the norm of a sum is at most the sum of the norms
+pub norm_sum_of : (n : ℕ) (us : List Vector) → norm1 (sum_of n us) ≤ weight us
+norm_sum_of n [] = omega (arith, norm-zeros n)
+norm_sum_of n (u ∷ us) = omega (arith, norm_sum_of n us, norm_sum u (sum_of n us))
+
+-- ---- vectors that agree with each other
+
+-- e agrees with each of the vectors
+abbrev pub AgreesWithAll : Vector → List Vector → Type 0
+AgreesWithAll e es = AllByRecursion (λ f. agree e f ≡ true) es
+
+-- every two of the terms agree
+abbrev pub AreAgreeing : List Vector → Type 0
+AreAgreeing [] = Unit {0}
+AreAgreeing (e ∷ es) = AgreesWithAll e es × AreAgreeing es
+
+pub agree_all : (n : ℕ) (e : Vector) (es : List Vector) → length e ≡ n → AgreesWithAll e es → agree e (sum_of n es) ≡ true
+agree_all n e [] size all = agree_zeros e n size
+agree_all n e (f ∷ es) size all = agree_sum e f (sum_of n es) all.0 (agree_all n e es size all.1)
+
+pub all_below : (u v : Vector) (es : List Vector) → u ⊑ v → AllByRecursion (λ f. f ⊑ u) es → AllByRecursion (λ f. f ⊑ v) es
+all_below u v [] h all = tt
+all_below u v (e ∷ es) h all = (conforms_trans e u v all.0 h, all_below u v es h all.1)
+
+-- vectors that agree are below their sum
+pub agreeing_below : (n : ℕ) (es : List Vector) → AreSized n es → AreAgreeing es → AllByRecursion (λ f. f ⊑ sum_of n es) es
+agreeing_below n [] sized agreeing = tt
+agreeing_below n (e ∷ es) sized agreeing =
+    let sum = sum_of n es in
+    let agrees : agree e sum ≡ true = agree_all n e es sized.0 agreeing.0 in
+    let up : sum ⊑ add e sum = subst (λ v. sum ⊑ v) (add_comm_v sum e) (below_sum sum e (agree_comm sum e ∙ agrees)) in
+    (below_sum e sum agrees, all_below sum (add e sum) es up (agreeing_below n es sized.1 agreeing.1))
+
+-- vectors below one vector agree with each other
+pub below_agree : (es : List Vector) (y : Vector) → AllByRecursion (λ e. e ⊑ y) es → AreAgreeing es
+below_agree [] y below = tt
+below_agree (e ∷ es) y below = (with_each e es below.0 below.1, below_agree es y below.1)
+  where
+    with_each : (e : Vector) (es : List Vector) → e ⊑ y → AllByRecursion (λ f. f ⊑ y) es → AgreesWithAll e es
+    with_each e [] h all = tt
+    with_each e (f ∷ es) h all = (agree_parts e f y h all.0, with_each e es h all.1)
+
+-- the norms of vectors that agree add up
+pub agreeing_weight : (n : ℕ) (us : List Vector) → AreSized n us → AreAgreeing us → norm1 (sum_of n us) ≡ weight us
+agreeing_weight n [] sized agreeing = norm-zeros n
+agreeing_weight n (u ∷ us) sized agreeing =
+    omega (
+      arith,
+      norm_agree u (sum_of n us) (agree_all n u us sized.0 agreeing.0),
+      agreeing_weight n us sized.1 agreeing.1,
+    )
