@@ -10,11 +10,16 @@ use Rattle.lattice_theory.specs.Vectors.{Vector}
 use Rattle.lattice_theory.specs.Matrices.{Matrix}
 use Rattle.lattice_theory.specs.Lattices.{is_complete_for, kernel}
 use Rattle.lattice_theory.proofs.KnownValues.{minus, four, six}
+use Rattle.fold_theory.specs.Programs.{Program, Bricks, phase_cost}
 use Rattle.fold_theory.proofs.KnownValues.{program_with, the_program, point_of, best_point, suppliers}
 use Rattle.run_theory.specs.Links.{link_matrix, complexity}
-use Rattle.run_theory.specs.Outcomes.{bound_number}
+use Rattle.run_theory.specs.Outcomes.{Step, bound_number, step_at}
+use Rattle.run_theory.specs.Steps.{moved, Move, rule_cmp}
+use Rattle.std.specs.declared.cmp.Ordering.{Ordering}
+use Rattle.std.specs.declared.cmp.Ordering.TheVariants as ordering
+use Rattle.lattice_theory.specs.SignedSums.{Sum, vectors}
 use Rattle.run_theory.specs.Keys.{beats}
-use Rattle.run_theory.specs.Certificates.{Certificate}
+use Rattle.run_theory.specs.Certificates.{Certificate, sum_of_row}
 use Rattle.run_theory.specs.Checker.{first_broken}
 
 abbrev pub the_bricks : List Vector
@@ -143,7 +148,13 @@ pub brick_refused : first_broken (program_with 3 9) (brick_certificate (pos 4) (
 brick_refused = refl
 
 -- the bound number: two bricks of two columns, one linking row, and no entry of a sum or its image past 2
-pub its_bound_number : bound_number the_program (map (λ a. a ∷ neg_ℤ a ∷ []) (minus 2 ∷ minus 1 ∷ pos 0 ∷ pos 1 ∷ pos 2 ∷ [])) ≡ 20
+abbrev pub five_sums : List Sum
+five_sums = map sum_of_row the_sums
+
+pub their_vectors : vectors five_sums ≡ map (λ a. a ∷ neg_ℤ a ∷ []) (minus 2 ∷ minus 1 ∷ pos 0 ∷ pos 1 ∷ pos 2 ∷ [])
+their_vectors = refl
+
+pub its_bound_number : bound_number the_program (vectors five_sums) ≡ 20
 its_bound_number = refl
 
 -- with a linking row that is no equation the combination counts in phase Closed too
@@ -182,6 +193,67 @@ supplier_links_complete = refl
 
 pub supplier_closed : complexity Closed suppliers.relations supplier_links supplier_link_basis ≡ 3
 supplier_closed = refl
+
+-- a linking row (3 0) sends (2, -2) to 6, which is the widest entry
+abbrev tripled : Program
+tripled = record the_program { link = record { cols = 2; rows = (pos 3 ∷ pos 0 ∷ []) ∷ [] } }
+
+pub bound_number_of_images : bound_number tripled (vectors five_sums) ≡ 60
+bound_number_of_images = refl
+
+-- ---- steps of phase Closed from (0, 4), (3, 1), of cost 9
+
+abbrev pub start_point : Bricks
+start_point = point_of (pos 0) (pos 4) (pos 3) (pos 1)
+
+-- the first brick goes up by one and the second down by one
+abbrev pub exchange : Bricks
+exchange = point_of (pos 1) (minus 1) (minus 1) (pos 1)
+
+pub moved_once : moved start_point 0 exchange ≡ point_of (pos 1) (pos 3) (pos 2) (pos 2)
+moved_once = refl
+
+pub moved_twice : moved start_point 1 exchange ≡ point_of (pos 2) (pos 2) (pos 1) (pos 3)
+moved_twice = refl
+
+pub costs_after :
+    map (λ k. phase_cost the_program Closed (moved start_point k exchange)) (0 ∷ 1 ∷ []) ≡ pos 5 ∷ pos 5 ∷ []
+costs_after = refl
+
+-- the order of 2 ^ j times the one move and 2 ^ k times the other
+abbrev order : ℕ → Bricks → ℕ → Bricks → Ordering
+order j g k h = rule_cmp the_program Closed start_point (record { k = j; bricks = g }) (record { k = k; bricks = h })
+
+-- of equal costs the shorter step is less, and of equal lengths too the lesser move
+pub shorter_first : order 0 exchange 1 exchange ≡ ordering.Less
+shorter_first = refl
+
+pub longer_last : order 1 exchange 0 exchange ≡ ordering.Greater
+longer_last = refl
+
+pub lesser_first : order 0 exchange 0 (point_of (pos 2) (minus 2) (minus 2) (pos 2)) ≡ ordering.Less
+lesser_first = refl
+
+-- the cost decides before the length
+pub cheaper_first : order 1 exchange 0 (point_of (pos 0) (pos 0) (pos 0) (pos 0)) ≡ ordering.Less
+cheaper_first = refl
+
+-- what is recorded of a step
+abbrev exchange_twice : Step
+exchange_twice = record { k = 1; gain = 4; bricks = 1 ∷ 2 ∷ []; entries = pos 1 ∷ minus 1 ∷ minus 1 ∷ pos 1 ∷ [] }
+
+pub its_step : step_at the_program Closed start_point (record { k = 1; bricks = exchange }) ≡ exchange_twice
+its_step = refl
+
+-- a brick that stands still is left out: in phase Counted 0 + 2 misses 3 by 1
+abbrev second_alone : Move
+second_alone = record { k = 0; bricks = point_of (pos 0) (pos 0) (pos 1) (minus 1) }
+
+abbrev second_once : Step
+second_once = record { k = 0; gain = 1; bricks = 2 ∷ []; entries = pos 1 ∷ minus 1 ∷ [] }
+
+pub its_counted_step : step_at the_program Counted (point_of (pos 0) (pos 4) (pos 2) (pos 2)) second_alone ≡ second_once
+its_counted_step = refl
 
 -- ---- keys
 

@@ -1,5 +1,5 @@
 -- What was solved, as contracts see it, and the positive side of the limits.
-use Rattle.std.specs.Prelude.{◌≡◌, List, Option, Some, None}
+use Rattle.std.specs.Prelude.{List, Option, Some, None}
 use Rattle.fold_theory.specs.declared.Phase.TheVariants.{Closed, Counted}
 use Rattle.fold_theory.specs.declared.Verdict.{Verdict}
 use Rattle.fold_theory.specs.declared.Verdict.TheVariants.{Optimal, InfeasibleBrick, InfeasibleLink}
