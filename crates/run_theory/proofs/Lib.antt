@@ -1,2 +1,3 @@
 pub mod KnownValues
 mod KnownLive
+mod KnownLimits
