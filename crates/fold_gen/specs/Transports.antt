@@ -1,0 +1,42 @@
+-- Transport from three suppliers: each customer is a brick, and each supplier a column and a linking row.
+use Rattle.std.specs.Prelude.{◌≡◌, ℕ, pos, List, [], ◌∷◌, map, replicate, sum_by, get_or}
+use Rattle.fold_theory.specs.declared.Cost.{Cost}
+use Rattle.fold_theory.specs.declared.Cost.TheVariants.{Quadratic}
+use Rattle.fold_theory.specs.declared.Relation.TheVariants.{Equal}
+use Rattle.lattice_theory.specs.Vectors.{Vector, zeros}
+use Rattle.lattice_theory.specs.Matrices.{unit_vector}
+use Rattle.fold_theory.specs.Programs.{Program, Brick}
+use Rattle.fold_gen.specs.declared.customers.Price.{Price}
+use Rattle.fold_gen.specs.declared.customers.Customer.{Customer}
+use Rattle.fold_gen.specs.Draws.{customers}
+
+-- what v units of a supplier cost: a·v² + b·v
+abbrev pub cost_of : Price → Cost
+cost_of p = Quadratic (pos p.a) (pos p.b) (pos 0)
+
+-- the shares of the suppliers add up to the demand
+abbrev pub brick_of : Customer → Brick
+brick_of c = record {
+  lower = zeros 3;
+  upper = replicate 3 (pos c.demand);
+  right = pos c.demand ∷ [];
+  costs = map cost_of c.prices;
+}
+
+-- what this supplier is planted to send, in all
+abbrev pub sent : ℕ → List Customer → ℕ
+sent j cs = sum_by (λ c. get_or c.planted j 0) cs
+
+-- each supplier sends just what is planted
+abbrev pub transport_of : List Customer → Program
+transport_of cs = record {
+  link = record { cols = 3; rows = unit_vector 3 0 ∷ unit_vector 3 1 ∷ unit_vector 3 2 ∷ [] };
+  link_right = pos (sent 0 cs) ∷ pos (sent 1 cs) ∷ pos (sent 2 cs) ∷ [];
+  relations = Equal ∷ Equal ∷ Equal ∷ [];
+  brick = record { cols = 3; rows = (pos 1 ∷ pos 1 ∷ pos 1 ∷ []) ∷ [] };
+  bricks = map brick_of cs;
+}
+
+-- the program of this number with so many customers
+abbrev pub transport : ℕ → ℕ → Program
+transport number bricks = transport_of (customers bricks number)
