@@ -1,11 +1,12 @@
 -- What the cause of a fault of one call is to its caller.
-use Rattle.std.proofs.Common.{◌≡◌, ℕ, ◌^◌, ◌≤◌, List, ◌++◌, length, Option, Some, Result, Ok, Err, IfErr, IsErrAnd}
-use Rattle.std.proofs.Common.{refl, ap, sym, subst, ◌∙◌, inl, inr, arith}
+use Rattle.std.proofs.Common.{◌≡◌, ℕ, List, ◌++◌, length, Option, Result, Ok, Err, IfErr, IsErrAnd}
+use Rattle.std.proofs.Common.{refl, ap, sym, subst, ◌∙◌, inr}
 use Rattle.std.proofs.lemmas.Bool.{lt-ltb}
 use Rattle.lattice_theory.specs.Matrices.{Matrix}
 use Rattle.fold_shelf.specs.declared.LoadFault.{LoadFault}
 use Rattle.fold_shelf.specs.declared.LoadFault.TheVariants as loading
-use Rattle.fold_shelf.specs.Outside.{File, file_named, without, Rose, ForTold, IsMissing, IsLoadCause}
+use Rattle.fold_shelf.specs.Outside.{File, Folder, file_named, without, ForTold, ReadFailed, OnlyReads, IsMissing, IsLoadCause}
+use Rattle.fold_shelf.proofs.Counts.{rose_since, missing_as}
 use Rattle.fold_files.proofs.ToldLaws.{ForTold-all, ForTold-weaker, ForTold-both}
 use Rattle.mat_files.specs.declared.MatFault.{MatFault}
 use Rattle.mat_files.specs.declared.MatFault.TheVariants as mat
@@ -15,148 +16,167 @@ use Rattle.fold_program.specs.declared.FileKind.{FileKind}
 use Rattle.fold_program.specs.Files.{suffix_of}
 use Rattle.fold_files.specs.declared.fault.CostFileFault.{CostFileFault}
 use Rattle.fold_files.specs.declared.fault.CostFileFault.TheVariants as cost
+use Rattle.fold_files.specs.declared.fault.RelationFault.{RelationFault}
+use Rattle.fold_files.specs.declared.fault.RelationFault.TheVariants as relation
 use Rattle.fold_files.specs.declared.fault.ReadFault.{ReadFault}
 use Rattle.fold_files.specs.declared.fault.ReadFault.TheVariants as read
 use Rattle.fold_files.specs.CostText.{IsCostFileFault}
-use Rattle.fold_files.specs.Reading.{Stop, TooLong, Form, Syntax, bytes_of, as_form}
-use Rattle.fold_files.specs.Faults.{load_fault, form_fault, costs_fault}
-use Rattle.fold_files.specs.Causes.{stop_of, form_stop, StopsBy, IsReadCause, IsOfFile}
+use Rattle.fold_files.specs.RelationText.{IsRelationFault}
+use Rattle.fold_files.specs.Reading.{bytes_of, as_form}
+use Rattle.fold_files.specs.Faults.{load_fault, form_fault, costs_fault, relations_fault}
+use Rattle.fold_files.specs.Causes.{IsReadCause, IsOfFile}
 use Rattle.fold_files.proofs.FileLaws.{bytes_of_removed}
 
--- a count that has risen since later has risen
-rose_since : (before mid now : ℕ) → before ≤ mid → Rose mid now → Rose before now
-rose_since before mid now later rose = omega arith
+-- ---- a call after others that only read
 
-missing_since : (files : Option (List File)) (name : List ℕ) (before mid now : ℕ) → before ≤ mid →
-    IsMissing files name mid now → IsMissing files name before now
-missing_since files name before mid now later (inl lacks) = inl lacks
-missing_since files name before mid now later (inr rose) = inr (rose_since before mid now later rose)
+module _ (before mid : Folder) (reads : OnlyReads before mid) where
+  -- the same is told before them
+  pub told_before : (P : List File → Type 0) → ForTold mid.files P → ForTold before.files P
+  told_before P told = subst (λ (o : Option (List File)). ForTold o P) reads.files told
 
--- ---- one call after the other
+  module _ (now : Folder) where
+    missing_before : (name : List ℕ) → IsMissing mid.files name (ReadFailed mid now) →
+        IsMissing before.files name (ReadFailed before now)
+    missing_before name missing =
+        subst (λ (o : Option (List File)). IsMissing o name (ReadFailed before now)) reads.files
+        (missing_as mid.files name (ReadFailed mid now) (ReadFailed before now)
+        (rose_since before.read_faults mid.read_faults now.read_faults reads.later) missing)
 
-module _ {A B : Type 0} (first : List File → Result A Stop) (rest : A → List File → Result B Stop) where
+    -- and a fault has the same cause
+    pub cause_before : {A : Type 0} (found : List File → Result A ReadFault) (prefix : List ℕ) (f : ReadFault) →
+        IsReadCause found mid now prefix f → IsReadCause found before now prefix f
+    cause_before found prefix (read.Shelf kind) (missing, reaches) =
+        (missing_before (prefix ++ suffix_of kind) missing, told_before _ reaches)
+    cause_before found prefix read.Memory cause = tt
+    cause_before found prefix (read.TooLong kind) (content, stops) = (content, told_before _ stops)
+    cause_before found prefix (read.Form kind fault) (content, stops) = (content, told_before _ stops)
+    cause_before found prefix (read.Costs at) (content, stops) = (content, told_before _ stops)
+    cause_before found prefix (read.Relations at) (content, stops) = (content, told_before _ stops)
+    cause_before found prefix (read.Program fault) (content, stops) = (content, told_before _ stops)
+
+-- ---- one thing read after the other
+
+module _ {A B : Type 0} (first : List File → Result A ReadFault) (rest : A → List File → Result B ReadFault) where
   -- first the one, and then the other on what that gives
-  abbrev pub both : List File → Result B Stop
+  abbrev pub both : List File → Result B ReadFault
   both files = and_then (first files) (λ a. rest a files)
 
-  stops_first : (files : Option (List File)) (f : ReadFault) → StopsBy first files f → StopsBy both files f
-  stops_first files f (stop, is, stops) = (stop, is, ForTold-weaker files _ _ (λ fs e. rw e refl) stops)
+  stops_first : (files : Option (List File)) (f : ReadFault) → ForTold files (λ fs. first fs ≡ Err f) →
+      ForTold files (λ fs. both fs ≡ Err f)
+  stops_first files f stops = ForTold-weaker files _ _ (λ fs e. rw e refl) stops
 
-  -- the first fault of the first is that of both
-  pub cause_first : (files : Option (List File)) (prefix : List ℕ) (before now : ℕ) (f : ReadFault) →
-      IsReadCause first files prefix before now f → IsReadCause both files prefix before now f
-  cause_first files prefix before now (read.Shelf kind) (missing, reaches) =
-      (missing, ForTold-weaker files _ _ (λ fs e. rw e refl) reaches)
-  cause_first files prefix before now (read.TooLong kind) cause = stops_first files (read.TooLong kind) cause
-  cause_first files prefix before now (read.Form kind fault) cause = stops_first files (read.Form kind fault) cause
-  cause_first files prefix before now (read.Costs at) cause = stops_first files (read.Costs at) cause
-  cause_first files prefix before now (read.Program fault) cause = stops_first files (read.Program fault) cause
-  cause_first files prefix before now read.Memory cause = tt
+  module _ (before now : Folder) (prefix : List ℕ) where
+    -- the first fault of the first is that of both
+    pub cause_first : (f : ReadFault) → IsReadCause first before now prefix f → IsReadCause both before now prefix f
+    cause_first (read.Shelf kind) (missing, reaches) =
+        (missing, ForTold-weaker before.files _ _ (λ fs e. rw e refl) reaches)
+    cause_first read.Memory cause = tt
+    cause_first (read.TooLong kind) (content, stops) = (content, stops_first before.files _ stops)
+    cause_first (read.Form kind fault) (content, stops) = (content, stops_first before.files _ stops)
+    cause_first (read.Costs at) (content, stops) = (content, stops_first before.files _ stops)
+    cause_first (read.Relations at) (content, stops) = (content, stops_first before.files _ stops)
+    cause_first (read.Program fault) (content, stops) = (content, stops_first before.files _ stops)
 
   -- the first gives this, also without a file of this kind
   pub record Passes (files : Option (List File)) (prefix : List ℕ) (kind : FileKind) (a : A) : Type 0 where
     pub told : ForTold files (λ fs. first fs ≡ Ok a)
     pub others : (fs : List File) → first (without fs (prefix ++ suffix_of kind)) ≡ first fs
 
-  stops_rest : (files : Option (List File)) (f : ReadFault) (a : A) → ForTold files (λ fs. first fs ≡ Ok a) →
-      StopsBy (rest a) files f → StopsBy both files f
-  stops_rest files f a told (stop, is, stops) = (stop, is, ForTold-both files _ _ _ (λ fs e r. rw e r) told stops)
+  module _ (before now : Folder) (prefix : List ℕ) (kind : FileKind) (a : A) (passes : Passes before.files prefix kind a) where
+    stops_rest : (f : ReadFault) → ForTold before.files (λ fs. rest a fs ≡ Err f) → ForTold before.files (λ fs. both fs ≡ Err f)
+    stops_rest f stops = ForTold-both before.files _ _ _ (λ fs e r. rw e r) passes.told stops
 
-  -- where the first gives something, the first fault of the other on it is that of both
-  pub cause_rest : (files : Option (List File)) (prefix : List ℕ) (before mid now : ℕ) (f : ReadFault)
-      (kind : FileKind) (a : A) → before ≤ mid → Passes files prefix kind a → IsOfFile kind f
-      → IsReadCause (rest a) files prefix mid now f → IsReadCause both files prefix before now f
-  cause_rest files prefix before mid now (read.Shelf k) kind a later passes same (missing, reaches) = (
-    missing_since files _ before mid now later missing,
-    ForTold-both files _ _ _ (λ fs e r.
-        let there : first (without fs (prefix ++ suffix_of k)) ≡ Ok a =
-        ap (λ (k : FileKind). first (without fs (prefix ++ suffix_of k))) same ∙ passes.others fs ∙ e in
-        rw there r) passes.told reaches,
-  )
-  cause_rest files prefix before mid now (read.TooLong k) kind a later passes same cause =
-      stops_rest files (read.TooLong k) a passes.told cause
-  cause_rest files prefix before mid now (read.Form k fault) kind a later passes same cause =
-      stops_rest files (read.Form k fault) a passes.told cause
-  cause_rest files prefix before mid now (read.Costs at) kind a later passes same cause =
-      stops_rest files (read.Costs at) a passes.told cause
-  cause_rest files prefix before mid now (read.Program fault) kind a later passes same cause =
-      stops_rest files (read.Program fault) a passes.told cause
-  cause_rest files prefix before mid now read.Memory kind a later passes same cause = tt
+    -- where the first gives something, the first fault of the other on it is that of both
+    pub cause_rest : (f : ReadFault) → IsOfFile kind f → IsReadCause (rest a) before now prefix f →
+        IsReadCause both before now prefix f
+    cause_rest (read.Shelf k) same (missing, reaches) = (
+      missing,
+      ForTold-both before.files _ _ _ (λ fs e r.
+          let there : first (without fs (prefix ++ suffix_of k)) ≡ Ok a =
+          ap (λ (k : FileKind). first (without fs (prefix ++ suffix_of k))) same ∙ passes.others fs ∙ e in
+          rw there r) passes.told reaches,
+    )
+    cause_rest read.Memory same cause = tt
+    cause_rest (read.TooLong k) same (content, stops) = (content, stops_rest _ stops)
+    cause_rest (read.Form k fault) same (content, stops) = (content, stops_rest _ stops)
+    cause_rest (read.Costs at) same (content, stops) = (content, stops_rest _ stops)
+    cause_rest (read.Relations at) same (content, stops) = (content, stops_rest _ stops)
+    cause_rest (read.Program fault) same (content, stops) = (content, stops_rest _ stops)
 
 -- ---- the faults of the calls below
 
 -- why a file is not loaded is why its bytes are not read
-pub load_refused : (files : Option (List File)) (prefix name : List ℕ) (kind : FileKind) (most before now : ℕ)
-    (fault : LoadFault) → name ≡ prefix ++ suffix_of kind
-    → IsLoadCause files name most before now fault →
-    IsReadCause (λ fs. bytes_of fs prefix kind most) files prefix before now (load_fault kind fault)
-load_refused files prefix name kind most before now loading.Missing is cause = (
-  subst (λ (n : List ℕ). IsMissing files n before now) is cause,
-  ForTold-all files _ (λ fs. bytes_of_removed fs prefix kind most),
+pub load_refused : (before now : Folder) (prefix name : List ℕ) (kind : FileKind) (most : ℕ) (fault : LoadFault)
+    → name ≡ prefix ++ suffix_of kind → IsLoadCause before now name most fault
+    → IsReadCause (λ fs. bytes_of fs prefix kind most) before now prefix (load_fault kind fault)
+load_refused before now prefix name kind most loading.Missing is cause = (
+  subst (λ (n : List ℕ). IsMissing before.files n (ReadFailed before now)) is cause,
+  ForTold-all before.files _ (λ fs. bytes_of_removed fs prefix kind most),
 )
-load_refused files prefix name kind most before now loading.Failed is cause =
-    (inr cause, ForTold-all files _ (λ fs. bytes_of_removed fs prefix kind most))
-load_refused files prefix name kind most before now loading.TooLong is cause = (
-  TooLong kind,
-  refl,
-  ForTold-weaker files _ _ (λ fs long.
+load_refused before now prefix name kind most loading.Failed is cause =
+    (inr cause, ForTold-all before.files _ (λ fs. bytes_of_removed fs prefix kind most))
+load_refused before now prefix name kind most loading.TooLong is cause = (
+  tt,
+  ForTold-weaker before.files _ _ (λ fs long.
       let there = ap (λ (n : List ℕ). file_named fs n) (sym is) ∙ long.1 in
       rw (there, lt-ltb most (length long.0) long.2, bytes_of) refl) cause,
 )
-load_refused files prefix name kind most before now loading.Memory is cause = tt
+load_refused before now prefix name kind most loading.Memory is cause = tt
 
-stops_then : {A B : Type 0} (files : Option (List File)) (found : List File → Result A Stop) (a : A)
-    (next : A → Result B Stop) (f : ReadFault) (stop : Stop) → stop_of f ≡ Some stop
-    → ForTold files (λ fs. found fs ≡ Ok a) → next a ≡ Err stop → StopsBy (λ fs. and_then (found fs) next) files f
-stops_then files found a next f stop is told stops = (stop, is, ForTold-weaker files _ _ (λ fs e. rw e stops) told)
+-- what the bytes of a file spell is refused
+module _ (before now : Folder) (prefix : List ℕ) (found : List File → Result (List ℕ) ReadFault) (bytes : List ℕ)
+    (told : ForTold before.files (λ fs. found fs ≡ Ok bytes)) where
+  stops_then : {A : Type 0} (next : List ℕ → Result A ReadFault) (f : ReadFault) → next bytes ≡ Err f →
+      ForTold before.files (λ fs. and_then (found fs) next ≡ Err f)
+  stops_then next f stops = ForTold-weaker before.files _ _ (λ fs e. rw e stops) told
 
--- why a matrix file is refused is why no matrix is read
-module _ (files : Option (List File)) (found : List File → Result (List ℕ) Stop) (bytes : List ℕ)
-    (told : ForTold files (λ fs. found fs ≡ Ok bytes)) (kind : FileKind) (parsed : List ℕ → Result Matrix MatFault) where
-  -- the matrix that the bytes make
-  abbrev pub formed : List File → Result Matrix Stop
-  formed fs = and_then (found fs) (λ b. as_form kind (parsed b))
+  module _ (kind : FileKind) (parsed : List ℕ → Result Matrix MatFault) where
+    -- the matrix that the bytes make
+    abbrev pub formed : List ℕ → Result Matrix ReadFault
+    formed b = as_form kind (parsed b)
 
-  stops_form : (f : MatFault) → form_stop kind f ≡ Some (Form kind f) → parsed bytes ≡ Err f →
-      StopsBy formed files (read.Form kind f)
-  stops_form f is refused = stops_then files found bytes _ (read.Form kind f) (Form kind f) is told (ap (as_form kind) refused)
+    stops_form : (f : MatFault) → parsed bytes ≡ Err f → ForTold before.files (λ fs. and_then (found fs) formed ≡ Err (read.Form kind f))
+    stops_form f refused = stops_then formed (read.Form kind f) (ap (as_form kind) refused)
 
-  pub form_refused : (prefix : List ℕ) (before now : ℕ) (fault : MatFault) → IsMatFault (parsed bytes) fault →
-      IsReadCause formed files prefix before now (form_fault kind fault)
-  form_refused prefix before now mat.Memory is = tt
-  form_refused prefix before now (mat.NotNumber at) is = stops_form (mat.NotNumber at) refl is
-  form_refused prefix before now (mat.NoBound at) is = stops_form (mat.NoBound at) refl is
-  form_refused prefix before now (mat.TooBig at) is = stops_form (mat.TooBig at) refl is
-  form_refused prefix before now (mat.EndsEarly at) is = stops_form (mat.EndsEarly at) refl is
-  form_refused prefix before now (mat.Extra at) is = stops_form (mat.Extra at) refl is
-  form_refused prefix before now (mat.Shape at got from to) is = stops_form (mat.Shape at got from to) refl is
+    -- why a matrix file is refused is why no matrix is read
+    pub form_refused : (fault : MatFault) → IsMatFault (parsed bytes) fault →
+        IsReadCause (λ fs. and_then (found fs) formed) before now prefix (form_fault kind fault)
+    form_refused mat.Memory is = tt
+    form_refused (mat.NotNumber at) is = (tt, stops_form (mat.NotNumber at) is)
+    form_refused (mat.NoBound at) is = (tt, stops_form (mat.NoBound at) is)
+    form_refused (mat.TooBig at) is = (tt, stops_form (mat.TooBig at) is)
+    form_refused (mat.EndsEarly at) is = (tt, stops_form (mat.EndsEarly at) is)
+    form_refused (mat.Extra at) is = (tt, stops_form (mat.Extra at) is)
+    form_refused (mat.Shape at got from to) is = (tt, stops_form (mat.Shape at got from to) is)
 
--- why the cost file is refused is why no costs are read
-pub costs_refused : {A : Type 0} (files : Option (List File)) (found : List File → Result (List ℕ) Stop)
-    (bytes : List ℕ) (prefix : List ℕ) (before now : ℕ) (next : List ℕ → Result A Stop) (parsed : Result A ℕ)
-    (fault : CostFileFault)
-    → ForTold files (λ fs. found fs ≡ Ok bytes) → ((at : ℕ) → parsed ≡ Err at → next bytes ≡ Err (Syntax at)) →
-    IsCostFileFault parsed fault
-    → IsReadCause (λ fs. and_then (found fs) next) files prefix before now (costs_fault fault)
-costs_refused files found bytes prefix before now next parsed cost.Memory told stops is = tt
-costs_refused files found bytes prefix before now next parsed (cost.Syntax at) told stops is =
-    stops_then files found bytes next (read.Costs at) (Syntax at) refl told (stops at is)
+  -- why the cost file is refused is why no costs are read
+  pub costs_refused : {A : Type 0} (parsed : List ℕ → Result A ℕ) (kept : Result A ℕ → Result A ReadFault)
+      → ((at : ℕ) → kept (Err at) ≡ Err (read.Costs at)) → (fault : CostFileFault) → IsCostFileFault (parsed bytes) fault
+      → IsReadCause (λ fs. and_then (found fs) (λ b. kept (parsed b))) before now prefix (costs_fault fault)
+  costs_refused parsed kept stays cost.Memory is = tt
+  costs_refused parsed kept stays (cost.Syntax at) is = (tt, stops_then (λ b. kept (parsed b)) (read.Costs at) (ap kept is ∙ stays at))
+
+  -- and so of the relation file
+  pub relations_refused : {A : Type 0} (parsed : List ℕ → Result A ℕ) (kept : Result A ℕ → Result A ReadFault)
+      → ((at : ℕ) → kept (Err at) ≡ Err (read.Relations at)) → (fault : RelationFault) → IsRelationFault (parsed bytes) fault
+      → IsReadCause (λ fs. and_then (found fs) (λ b. kept (parsed b))) before now prefix (relations_fault fault)
+  relations_refused parsed kept stays relation.Memory is = tt
+  relations_refused parsed kept stays (relation.Syntax at) is = (tt, stops_then (λ b. kept (parsed b)) (read.Relations at) (ap kept is ∙ stays at))
 
 -- what holds of a fault holds of the error of a call that answers it
 pub of_error : {A F : Type 0} (r : Result A F) (f : F) (P : F → Type 0) → IsErrAnd r (λ e. e ≡ f) → P f → IfErr r P
 of_error (Ok a) f P is p = tt
 of_error (Err e) f P is p = subst P (sym is) p
 
--- ---- the same folder, and the same is looked for
+-- ---- the same is looked for, in the same folder
 
-module _ {A : Type 0} {now files : Option (List File)} {got found : List File → Result A Stop}
-    (unchanged : now ≡ files) (same : got ≡ found) where
-  pub read_as : (a : A) → ForTold now (λ fs. got fs ≡ Ok a) → ForTold files (λ fs. found fs ≡ Ok a)
-  read_as a told = subst (λ (o : Option (List File)). ForTold o (λ fs. found fs ≡ Ok a)) unchanged
-      (subst (λ (r : List File → Result A Stop). ForTold now (λ fs. r fs ≡ Ok a)) same told)
+module _ {A : Type 0} {got found : List File → Result A ReadFault} (same : got ≡ found) (before mid : Folder)
+    (reads : OnlyReads before mid) where
+  pub read_as : (a : A) → ForTold mid.files (λ fs. got fs ≡ Ok a) → ForTold before.files (λ fs. found fs ≡ Ok a)
+  read_as a told = told_before before mid reads _
+      (subst (λ (r : List File → Result A ReadFault). ForTold mid.files (λ fs. r fs ≡ Ok a)) same told)
 
-  pub refused_as : (prefix : List ℕ) (before after : ℕ) (f : ReadFault) → IsReadCause got now prefix before after f →
-      IsReadCause found files prefix before after f
-  refused_as prefix before after f cause =
-      subst (λ (o : Option (List File)). IsReadCause found o prefix before after f) unchanged
-      (subst (λ (r : List File → Result A Stop). IsReadCause r now prefix before after f) same cause)
+  pub refused_as : (now : Folder) (prefix : List ℕ) (f : ReadFault) → IsReadCause got mid now prefix f →
+      IsReadCause found before now prefix f
+  refused_as now prefix f cause = cause_before before mid reads now found prefix f
+      (subst (λ (r : List File → Result A ReadFault). IsReadCause r mid now prefix f) same cause)

@@ -1,5 +1,5 @@
 -- The files of a folder by their names, and the folder without one of them.
-use Rattle.std.proofs.Common.{◌≡◌, ℕ, ◌^◌, false, true, List, [], ◌∷◌, ◌++◌, Option, Some, None, Result, Err, cond}
+use Rattle.std.proofs.Common.{◌≡◌, ℕ, ◌^◌, Bool, false, true, List, [], ◌∷◌, ◌++◌, Option, Some, None, Result, Err, cond}
 use Rattle.std.proofs.Common.{refl, ap, ◌∙◌, inl, inr, eq-eqb}
 use Rattle.std.specs.Str.{bytes_eq}
 use Rattle.std.proofs.lemmas.Bool.{cases_Bool}
@@ -9,8 +9,13 @@ use Rattle.mat_files.specs.Tokens.{and_then}
 use Rattle.mat_files.specs.MatrixText.{parsed_matrix}
 use Rattle.fold_shelf.specs.Outside.{File, file_named, without}
 use Rattle.fold_program.specs.declared.FileKind.{FileKind}
+use Rattle.fold_program.specs.declared.FileKind.TheVariants as file
 use Rattle.fold_program.specs.Files.{suffix_of}
-use Rattle.fold_files.specs.Reading.{Stop, Absent, bytes_of, as_form, matrix_of}
+use Rattle.fold_files.specs.declared.fault.ReadFault.{ReadFault}
+use Rattle.fold_files.specs.declared.fault.ReadFault.TheVariants as read
+use Rattle.fold_files.specs.CostText.{parsed_costs}
+use Rattle.fold_files.specs.RelationText.{parsed_relations}
+use Rattle.fold_files.specs.Reading.{bytes_of, as_form, matrix_of, as_relations, relations_of, as_costs, costs_of}
 
 -- ---- names
 
@@ -52,7 +57,7 @@ Differ a b = bytes_eq (suffix_of a) (suffix_of b) ≡ false
 
 module _ (files : List File) (prefix : List ℕ) (kind : FileKind) (most : ℕ) where
   -- reading stops at a file that was taken out
-  pub bytes_of_removed : bytes_of (without files (prefix ++ suffix_of kind)) prefix kind most ≡ Err (Absent kind)
+  pub bytes_of_removed : bytes_of (without files (prefix ++ suffix_of kind)) prefix kind most ≡ Err (read.Shelf kind)
   bytes_of_removed = rw (lacks_removed files (prefix ++ suffix_of kind), bytes_of) refl
 
   -- and at no other
@@ -69,5 +74,21 @@ pub matrix_of_others : (files : List File) (prefix : List ℕ) (kind : FileKind)
     Differ other kind
     → matrix_of (without files (prefix ++ suffix_of other)) prefix kind shape ≡ matrix_of files prefix kind shape
 matrix_of_others files prefix kind shape other differ =
-    ap (λ (read : Result (List ℕ) Stop). and_then read (λ bytes. as_form kind (parsed_matrix shape bytes)))
+    ap (λ (read : Result (List ℕ) ReadFault). and_then read (λ bytes. as_form kind (parsed_matrix shape bytes)))
     (bytes_of_others files prefix kind (2 ^ 26) other differ)
+
+module _ (files : List File) (prefix : List ℕ) (other : FileKind) where
+  -- so of the costs
+  pub costs_of_others : (n t : ℕ) → Differ other file.Costs →
+      costs_of (without files (prefix ++ suffix_of other)) prefix n t ≡ costs_of files prefix n t
+  costs_of_others n t differ =
+      ap (λ (read : Result (List ℕ) ReadFault). and_then read (λ bytes. as_costs (parsed_costs n t bytes)))
+      (bytes_of_others files prefix file.Costs (2 ^ 26) other differ)
+
+  -- and of the relations
+  pub relations_of_others : (asked : Bool) (r : ℕ) → Differ other file.Relations →
+      relations_of (without files (prefix ++ suffix_of other)) prefix asked r ≡ relations_of files prefix asked r
+  relations_of_others false r differ = refl
+  relations_of_others true r differ =
+      ap (λ (read : Result (List ℕ) ReadFault). and_then read (λ bytes. as_relations (parsed_relations r bytes)))
+      (bytes_of_others files prefix file.Relations (2 ^ 26) other differ)

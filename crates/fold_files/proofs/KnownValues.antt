@@ -1,15 +1,16 @@
 -- The definitions at values worked by hand.
-use Rattle.std.specs.Prelude.{◌≡◌, ℕ, List, pos, negsuc, [], ◌∷◌, Some, None, Ok, Err, codes, refl}
+use Rattle.std.specs.Prelude.{◌≡◌, ℕ, false, true, List, pos, negsuc, [], ◌∷◌, Some, None, Ok, Err, codes, refl}
 use Rattle.fold_theory.specs.declared.Cost.TheVariants.{Quadratic, Points}
+use Rattle.fold_theory.specs.declared.Relation.TheVariants.{Equal, Less, Greater}
 use Rattle.fold_theory.specs.Programs.{Program, Brick}
 use Rattle.fold_shelf.specs.Outside.{File, without}
 use Rattle.mat_files.specs.declared.MatFault.TheVariants as mat
 use Rattle.fold_program.specs.declared.FileKind.TheVariants as file
-use Rattle.fold_program.specs.Refusals.{Crossed}
+use Rattle.fold_program.specs.declared.ProgramFault.TheVariants as program
 use Rattle.fold_files.specs.declared.fault.ReadFault.TheVariants as read
 use Rattle.fold_files.specs.CostText.{bounded_number, count_within, parsed_costs}
-use Rattle.fold_files.specs.Reading.{Absent, Form, Refused, program_in, point_in, plain_in}
-use Rattle.fold_files.specs.Causes.{stop_of}
+use Rattle.fold_files.specs.RelationText.{parsed_relations}
+use Rattle.fold_files.specs.Reading.{program_in, point_in, plain_in}
 
 -- costs of two bricks with two columns
 pub four_costs : parsed_costs 2 2 (codes "2 2 q 1 0 0 q 0 0 0 q 1 0 0 q 0 0 0")
@@ -42,6 +43,25 @@ no_breakpoint = refl
 
 pub many_breakpoints : parsed_costs 1 1 (codes "1 1 p 1001 0 0") ≡ Err 6
 many_breakpoints = refl
+
+-- the value of a number decides
+pub three_relations : parsed_relations 3 (codes "+1 03 = < >") ≡ Ok (Equal ∷ Less ∷ Greater ∷ [])
+three_relations = refl
+
+pub no_relation : parsed_relations 0 (codes "1 -0") ≡ Ok []
+no_relation = refl
+
+pub rows_of_none : parsed_relations 1 (codes "1 0") ≡ Err 2
+rows_of_none = refl
+
+pub one_short : parsed_relations 2 (codes "1 2 = ") ≡ Err 6
+one_short = refl
+
+pub one_too_many : parsed_relations 1 (codes "1 1 = =") ≡ Err 6
+one_too_many = refl
+
+pub another_sign : parsed_relations 1 (codes "1 1 <=") ≡ Err 4
+another_sign = refl
 
 pub token_after : parsed_costs 1 1 (codes "1 1 q 0 0 0 q") ≡ Err 12
 token_after = refl
@@ -92,11 +112,12 @@ abbrev the_program : Program
 the_program = record {
   link = record { cols = 2; rows = (pos 1 ∷ pos 0 ∷ []) ∷ [] };
   link_right = pos 3 ∷ [];
+  relations = Equal ∷ [];
   brick = record { cols = 2; rows = (pos 1 ∷ pos 1 ∷ []) ∷ [] };
   bricks = one_brick ∷ one_brick ∷ [];
 }
 
-pub a_program : program_in the_files (codes "t") ≡ Ok the_program
+pub a_program : program_in the_files (codes "t") false ≡ Ok the_program
 a_program = refl
 
 pub a_point : point_in the_files (codes "t") the_program ≡ Ok
@@ -104,26 +125,46 @@ pub a_point : point_in the_files (codes "t") the_program ≡ Ok
 a_point = refl
 
 -- the first file that is absent counts
-pub no_costs : program_in (without the_files (codes "t.cost")) (codes "t") ≡ Err (Absent file.Costs)
+pub no_costs : program_in (without the_files (codes "t.cost")) (codes "t") false ≡ Err (read.Shelf file.Costs)
 no_costs = refl
 
-pub no_files : program_in [] (codes "t") ≡ Err (Absent file.Link)
+pub no_files : program_in [] (codes "t") false ≡ Err (read.Shelf file.Link)
 no_files = refl
 
-pub no_matrix : plain_in the_files (codes "t") ≡ Err (Absent file.Plain)
+pub no_matrix : plain_in the_files (codes "t") ≡ Err (read.Shelf file.Plain)
 no_matrix = refl
 
 -- a file's fault comes before those of later files and of the program
-pub no_bound : program_in (files_with (codes "2 2 4 *")) (codes "t") ≡ Err (Form file.Upper (mat.NoBound 6))
+pub no_bound : program_in (files_with (codes "2 2 4 *")) (codes "t") false ≡ Err (read.Form file.Upper (mat.NoBound 6))
 no_bound = refl
 
-pub short_bounds : program_in (files_with (codes "1 2 -1 -1")) (codes "t") ≡ Err
-    (Form file.Upper (mat.Shape 0 (pos 1) 2 2))
+pub short_bounds : program_in (files_with (codes "1 2 -1 -1")) (codes "t") false ≡ Err
+    (read.Form file.Upper (mat.Shape 0 (pos 1) 2 2))
 short_bounds = refl
 
-pub crossed_bounds : program_in (files_with (codes "2 2 4 -1 -1 4")) (codes "t") ≡ Err (Refused (Crossed 1 2))
+pub crossed_bounds : program_in (files_with (codes "2 2 4 -1 -1 4")) (codes "t") false ≡ Err (read.Program (program.CrossedBounds 1 2))
 crossed_bounds = refl
 
--- a fault of the shelf is of its own file, and no fault of content
-pub shelf_stops : stop_of (read.Shelf file.Costs) ≡ None
-shelf_stops = refl
+-- ---- the same files with one of relations
+
+abbrev related_by : List ℕ → List File
+related_by text = file_of (codes "t.rel") text ∷ the_files
+
+pub at_most_its_right_side : program_in (related_by (codes "1 1 <")) (codes "t") true ≡ Ok (record the_program { relations = Less ∷ [] })
+at_most_its_right_side = refl
+
+pub not_asked_for : program_in (related_by (codes "1 1 <")) (codes "t") false ≡ Ok the_program
+not_asked_for = refl
+
+pub no_relations : program_in the_files (codes "t") true ≡ Err (read.Shelf file.Relations)
+no_relations = refl
+
+pub no_such_relation : program_in (related_by (codes "1 1\n~")) (codes "t") true ≡ Err (read.Relations 4)
+no_such_relation = refl
+
+-- relations come after the right sides and before the costs
+pub relations_before_costs : program_in (without (related_by (codes "1 1 ~")) (codes "t.cost")) (codes "t") true ≡ Err (read.Relations 4)
+relations_before_costs = refl
+
+pub right_sides_before_relations : program_in (without (related_by (codes "1 1 ~")) (codes "t.rhs")) (codes "t") true ≡ Err (read.Shelf file.Right)
+right_sides_before_relations = refl

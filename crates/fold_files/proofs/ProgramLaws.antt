@@ -1,15 +1,16 @@
 -- A program is read file by file: where one is refused, so is the program.
-use Rattle.std.proofs.Common.{◌≡◌, ℕ, ◌+◌, ◌-◌, ◌*◌, ◌^◌, ◌<◌, ◌≤◌, unsigned_abs, true, List, ◌++◌, length, Option}
-use Rattle.std.proofs.Common.{Some, None, Result, Ok, Err, All, IsTrue, refl, ap, eq-eqb, arith}
+use Rattle.std.proofs.Common.{◌≡◌, ℕ, ◌+◌, ◌-◌, ◌*◌, ◌^◌, ◌<◌, ◌≤◌, unsigned_abs, Bool, true, List, length, Option, Some}
+use Rattle.std.proofs.Common.{None, Result, Ok, Err, All, IsTrue, refl, eq-eqb, arith}
 use Rattle.std.proofs.lemmas.Bool.{le-leb}
 use Rattle.std.proofs.lemmas.List.Elements.{All-weaker}
 use Rattle.lattice_theory.specs.Vectors.{Vector, is_bounded}
 use Rattle.lattice_theory.specs.Matrices.{Matrix}
 use Rattle.lattice_theory.specs.BasisLimits.{IsNarrow}
 use Rattle.fold_theory.specs.declared.Cost.{Cost}
-use Rattle.fold_theory.specs.Programs.{Program}
+use Rattle.fold_theory.specs.declared.Relation.{Relation}
+use Rattle.fold_theory.specs.Programs.{Program, IsProgram}
 use Rattle.convex_costs.specs.Bounds.{AreBounded}
-use Rattle.fold_shelf.specs.Outside.{File, without, ForTold}
+use Rattle.fold_shelf.specs.Outside.{File, Folder, ForTold}
 use Rattle.fold_files.proofs.ToldLaws.{ForTold-all}
 use Rattle.mat_files.specs.Tokens.{and_then}
 use Rattle.mat_files.specs.MatrixText.{Admits}
@@ -18,189 +19,173 @@ use Rattle.fold_program.specs.declared.FileKind.{FileKind}
 use Rattle.fold_program.specs.declared.FileKind.TheVariants as file
 use Rattle.fold_program.specs.declared.ProgramFault.{ProgramFault}
 use Rattle.fold_program.specs.declared.ProgramFault.TheVariants as program
-use Rattle.fold_program.specs.Files.{suffix_of}
-use Rattle.fold_program.specs.Parts.{PartsValue, program_of}
+use Rattle.fold_program.specs.Parts.{PartsValue, program_of, related}
 use Rattle.fold_program.specs.Refusals.{Refusal, Crossed, CostAt, CostSum, in_shape, first_misshaped, program_refusal}
 use Rattle.fold_program.specs.Faults.{parts_value, IsBoundedRow, AreWithinLimits, IsProgramFault}
 use Rattle.fold_files.specs.declared.fault.ReadFault.{ReadFault}
 use Rattle.fold_files.specs.declared.fault.ReadFault.TheVariants as read
-use Rattle.fold_files.specs.Reading.{Stop, Refused, shaped, exactly, matrix_of, costs_of, as_costs, as_program}
-use Rattle.fold_files.specs.Reading.{program_in}
-use Rattle.fold_files.specs.CostText.{parsed_costs}
-use Rattle.fold_files.specs.Faults.{whole_fault}
-use Rattle.fold_files.specs.Causes.{stop_of, StopsBy, IsReadCause, IsOfFile}
-use Rattle.fold_files.proofs.FileLaws.{Differ, bytes_of_others, matrix_of_others}
+use Rattle.fold_files.specs.Reading.{shaped, exactly, matrix_of, relations_of, costs_of, as_program, program_in}
+use Rattle.fold_files.specs.Faults.{refusal_fault, whole_fault}
+use Rattle.fold_files.specs.Causes.{IsReadCause, IsOfFile}
+use Rattle.fold_files.proofs.FileLaws.{Differ, matrix_of_others, relations_of_others, costs_of_others}
 use Rattle.fold_files.proofs.CauseLaws.{cause_first, cause_rest}
 
 -- ---- what each file gives, after those before it
 
-module _ (prefix : List ℕ) where
-  abbrev pub link_of : List File → Result Matrix Stop
+module _ (prefix : List ℕ) (asked : Bool) where
+  abbrev pub link_of : List File → Result Matrix ReadFault
   link_of fs = matrix_of fs prefix file.Link (shaped 0 16 1 32 (2 ^ 31 - 1))
 
-  abbrev pub brick_of : Matrix → List File → Result Matrix Stop
+  abbrev pub brick_of : Matrix → List File → Result Matrix ReadFault
   brick_of link fs = matrix_of fs prefix file.Brick (shaped 0 16 link.cols link.cols (2 ^ 31 - 1))
 
-  abbrev pub lower_of : Matrix → List File → Result Matrix Stop
+  abbrev pub lower_of : Matrix → List File → Result Matrix ReadFault
   lower_of link fs = matrix_of fs prefix file.Lower (shaped 1 10000 link.cols link.cols (2 ^ 62))
 
-  abbrev pub upper_of : Matrix → Matrix → List File → Result Matrix Stop
+  abbrev pub upper_of : Matrix → Matrix → List File → Result Matrix ReadFault
   upper_of link lower fs = matrix_of fs prefix file.Upper (exactly (length lower.rows) link.cols)
 
-  abbrev pub right_of : Matrix → Matrix → Matrix → List File → Result Matrix Stop
+  abbrev pub right_of : Matrix → Matrix → Matrix → List File → Result Matrix ReadFault
   right_of link brick lower fs = matrix_of fs prefix file.Right
       (exactly 1 (length link.rows + length lower.rows * length brick.rows))
 
-  abbrev pub costs_for : Matrix → Matrix → List File → Result (List Cost) Stop
+  abbrev pub relations_for : Matrix → List File → Result (List Relation) ReadFault
+  relations_for link fs = relations_of fs prefix asked (length link.rows)
+
+  abbrev pub costs_for : Matrix → Matrix → List File → Result (List Cost) ReadFault
   costs_for link lower fs = costs_of fs prefix (length lower.rows) link.cols
 
-  -- the rest of reading, after the costs, the right sides, and so on up to the first file
-  abbrev pub with_costs : Matrix → Matrix → Matrix → Matrix → Matrix → List Cost → List File → Result Program Stop
-  with_costs link brick lower upper right costs fs =
-      as_program (record { link = link; brick = brick; lower = lower; upper = upper; right = right; costs = costs })
+  -- the rest of reading, after the costs, the relations, and so on up to the first file
+  abbrev pub with_costs : Matrix → Matrix → Matrix → Matrix → Matrix → List Relation → List Cost → List File → Result Program ReadFault
+  with_costs link brick lower upper right relations costs fs =
+      as_program relations (record { link = link; brick = brick; lower = lower; upper = upper; right = right; costs = costs })
 
-  abbrev pub with_right : Matrix → Matrix → Matrix → Matrix → Matrix → List File → Result Program Stop
+  abbrev pub with_relations : Matrix → Matrix → Matrix → Matrix → Matrix → List Relation → List File → Result Program ReadFault
+  with_relations link brick lower upper right relations fs =
+      and_then (costs_for link lower fs) (λ costs. with_costs link brick lower upper right relations costs fs)
+
+  abbrev pub with_right : Matrix → Matrix → Matrix → Matrix → Matrix → List File → Result Program ReadFault
   with_right link brick lower upper right fs =
-      and_then (costs_for link lower fs) (λ costs. with_costs link brick lower upper right costs fs)
+      and_then (relations_for link fs) (λ relations. with_relations link brick lower upper right relations fs)
 
-  abbrev pub with_upper : Matrix → Matrix → Matrix → Matrix → List File → Result Program Stop
+  abbrev pub with_upper : Matrix → Matrix → Matrix → Matrix → List File → Result Program ReadFault
   with_upper link brick lower upper fs = and_then (right_of link brick lower fs)
       (λ right. with_right link brick lower upper right fs)
 
-  abbrev pub with_lower : Matrix → Matrix → Matrix → List File → Result Program Stop
+  abbrev pub with_lower : Matrix → Matrix → Matrix → List File → Result Program ReadFault
   with_lower link brick lower fs = and_then (upper_of link lower fs) (λ upper. with_upper link brick lower upper fs)
 
-  abbrev pub with_brick : Matrix → Matrix → List File → Result Program Stop
+  abbrev pub with_brick : Matrix → Matrix → List File → Result Program ReadFault
   with_brick link brick fs = and_then (lower_of link fs) (λ lower. with_lower link brick lower fs)
 
-  abbrev pub with_link : Matrix → List File → Result Program Stop
+  abbrev pub with_link : Matrix → List File → Result Program ReadFault
   with_link link fs = and_then (brick_of link fs) (λ brick. with_brick link brick fs)
-
-costs_of_others : (fs : List File) (prefix : List ℕ) (n t : ℕ) (other : FileKind) → Differ other file.Costs
-    → costs_of (without fs (prefix ++ suffix_of other)) prefix n t ≡ costs_of fs prefix n t
-costs_of_others fs prefix n t other differ =
-    ap (λ (read : Result (List ℕ) Stop). and_then read (λ bytes. as_costs (parsed_costs n t bytes)))
-    (bytes_of_others fs prefix file.Costs (2 ^ 26) other differ)
 
 -- ---- the first fault of one file is that of the program
 
-module _ (files : Option (List File)) (prefix : List ℕ) (before mid now : ℕ) (f : ReadFault) (later : before ≤ mid)
-  where
-    -- the fault is the first one of all six files
-    abbrev pub OfProgram : Type 0
-    OfProgram = IsReadCause (λ fs. program_in fs prefix) files prefix before now f
+module _ (before now : Folder) (prefix : List ℕ) (asked : Bool) (f : ReadFault) where
+  -- the fault is the first one of all files
+  abbrev pub OfProgram : Type 0
+  OfProgram = IsReadCause (λ fs. program_in fs prefix asked) before now prefix f
 
-    -- the fault is the first one of what is read here
-    abbrev pub Of : {A : Type 0} → (List File → Result A Stop) → Type 0
-    Of found = IsReadCause found files prefix mid now f
+  -- the fault is the first one of what is read here
+  abbrev pub Of : {A : Type 0} → (List File → Result A ReadFault) → Type 0
+  Of found = IsReadCause found before now prefix f
 
-    abbrev pub Gives : {A : Type 0} → (List File → Result A Stop) → A → Type 0
-    Gives found a = ForTold files (λ fs. found fs ≡ Ok a)
+  abbrev pub Gives : {A : Type 0} → (List File → Result A ReadFault) → A → Type 0
+  Gives found a = ForTold before.files (λ fs. found fs ≡ Ok a)
 
-    module _ (link : Matrix) (link_read : Gives (link_of prefix) link) where
-      past_link : (kind : FileKind) → Differ kind file.Link → IsOfFile kind f → Of (with_link prefix link) → OfProgram
-      past_link kind differ same =
-          cause_rest (link_of prefix) (with_link prefix) files prefix before mid now f kind link later
-          (record {
-            told = link_read;
-            others =
-                λ fs. matrix_of_others fs prefix file.Link (shaped 0 16 1 32 (2 ^ 31 - 1)) kind differ;
-          }) same
+  module _ (link : Matrix) (link_read : Gives (link_of prefix asked) link) where
+    past_link : (kind : FileKind) → Differ kind file.Link → IsOfFile kind f → Of (with_link prefix asked link) → OfProgram
+    past_link kind differ same cause =
+        cause_rest (link_of prefix asked) (with_link prefix asked) before now prefix kind link
+        (record { told = link_read; others = λ fs. matrix_of_others fs prefix file.Link (shaped 0 16 1 32 (2 ^ 31 - 1)) kind differ }) f same cause
 
-      pub brick_refused : IsOfFile file.Brick f → Of (brick_of prefix link) → OfProgram
-      brick_refused same cause = past_link file.Brick refl same
-          (cause_first (brick_of prefix link) (with_brick prefix link) files prefix mid now f cause)
+    pub brick_refused : IsOfFile file.Brick f → Of (brick_of prefix asked link) → OfProgram
+    brick_refused same cause =
+        past_link file.Brick refl same
+        (cause_first (brick_of prefix asked link) (with_brick prefix asked link) before now prefix f cause)
 
-      module _ (brick : Matrix) (brick_read : Gives (brick_of prefix link) brick) where
-        past_brick : (kind : FileKind) → Differ kind file.Link → Differ kind file.Brick → IsOfFile kind f →
-            Of (with_brick prefix link brick) → OfProgram
-        past_brick kind link_differs differ same cause =
-            past_link kind link_differs same
-            (cause_rest (brick_of prefix link) (with_brick prefix link) files prefix mid mid now f kind brick
-            (omega arith)
-            (record {
-              told = brick_read;
-              others =
-                  λ fs. matrix_of_others fs prefix file.Brick (shaped 0 16 link.cols link.cols (2 ^ 31 - 1)) kind differ;
-            }) same cause)
+    module _ (brick : Matrix) (brick_read : Gives (brick_of prefix asked link) brick) where
+      past_brick : (kind : FileKind) → Differ kind file.Link → Differ kind file.Brick → IsOfFile kind f → Of (with_brick prefix asked link brick) → OfProgram
+      past_brick kind link_differs differ same cause =
+          past_link kind link_differs same
+          (cause_rest (brick_of prefix asked link) (with_brick prefix asked link) before now prefix kind brick
+          (record { told = brick_read; others = λ fs. matrix_of_others fs prefix file.Brick (shaped 0 16 link.cols link.cols (2 ^ 31 - 1)) kind differ }) f same cause)
 
-        pub lower_refused : IsOfFile file.Lower f → Of (lower_of prefix link) → OfProgram
-        lower_refused same cause =
-            past_brick file.Lower refl refl same
-            (cause_first (lower_of prefix link) (with_lower prefix link brick) files prefix mid now f cause)
+      pub lower_refused : IsOfFile file.Lower f → Of (lower_of prefix asked link) → OfProgram
+      lower_refused same cause =
+          past_brick file.Lower refl refl same
+          (cause_first (lower_of prefix asked link) (with_lower prefix asked link brick) before now prefix f cause)
 
-        module _ (lower : Matrix) (lower_read : Gives (lower_of prefix link) lower) where
-          past_lower : (kind : FileKind) → Differ kind file.Link → Differ kind file.Brick → Differ kind file.Lower →
-              IsOfFile kind f → Of (with_lower prefix link brick lower) → OfProgram
-          past_lower kind link_differs brick_differs differ same cause =
-              past_brick kind link_differs brick_differs same
-              (cause_rest (lower_of prefix link) (with_lower prefix link brick) files prefix mid mid now f kind lower
-              (omega arith)
-              (record {
-                told = lower_read;
-                others =
-                    λ fs. matrix_of_others fs prefix file.Lower (shaped 1 10000 link.cols link.cols (2 ^ 62)) kind differ;
-              }) same cause)
+      module _ (lower : Matrix) (lower_read : Gives (lower_of prefix asked link) lower) where
+        past_lower : (kind : FileKind) → Differ kind file.Link → Differ kind file.Brick → Differ kind file.Lower → IsOfFile kind f → Of (with_lower prefix asked link brick lower) → OfProgram
+        past_lower kind link_differs brick_differs differ same cause =
+            past_brick kind link_differs brick_differs same
+            (cause_rest (lower_of prefix asked link) (with_lower prefix asked link brick) before now prefix kind lower
+            (record { told = lower_read; others = λ fs. matrix_of_others fs prefix file.Lower (shaped 1 10000 link.cols link.cols (2 ^ 62)) kind differ }) f same cause)
 
-          pub upper_refused : IsOfFile file.Upper f → Of (upper_of prefix link lower) → OfProgram
-          upper_refused same cause =
-              past_lower file.Upper refl refl refl same
-              (cause_first (upper_of prefix link lower) (with_upper prefix link brick lower) files prefix mid now f
-              cause)
+        pub upper_refused : IsOfFile file.Upper f → Of (upper_of prefix asked link lower) → OfProgram
+        upper_refused same cause =
+            past_lower file.Upper refl refl refl same
+            (cause_first (upper_of prefix asked link lower) (with_upper prefix asked link brick lower) before now prefix f cause)
 
-          module _ (upper : Matrix) (upper_read : Gives (upper_of prefix link lower) upper) where
-            past_upper : (kind : FileKind) → Differ kind file.Link → Differ kind file.Brick → Differ kind file.Lower →
-                Differ kind file.Upper → IsOfFile kind f → Of (with_upper prefix link brick lower upper) → OfProgram
-            past_upper kind link_differs brick_differs lower_differs differ same cause =
-                past_lower kind link_differs brick_differs lower_differs same
-                (cause_rest (upper_of prefix link lower) (with_upper prefix link brick lower) files prefix mid mid now f
-                kind upper (omega arith)
-                (record {
-                  told = upper_read;
-                  others =
-                      λ fs. matrix_of_others fs prefix file.Upper (exactly (length lower.rows) link.cols) kind differ;
-                })
-                same cause)
+        module _ (upper : Matrix) (upper_read : Gives (upper_of prefix asked link lower) upper) where
+          past_upper : (kind : FileKind) → Differ kind file.Link → Differ kind file.Brick → Differ kind file.Lower → Differ kind file.Upper → IsOfFile kind f → Of (with_upper prefix asked link brick lower upper) → OfProgram
+          past_upper kind link_differs brick_differs lower_differs differ same cause =
+              past_lower kind link_differs brick_differs lower_differs same
+              (cause_rest (upper_of prefix asked link lower) (with_upper prefix asked link brick lower) before now prefix kind upper
+              (record { told = upper_read; others = λ fs. matrix_of_others fs prefix file.Upper (exactly (length lower.rows) link.cols) kind differ }) f same cause)
 
-            pub right_refused : IsOfFile file.Right f → Of (right_of prefix link brick lower) → OfProgram
-            right_refused same cause =
-                past_upper file.Right refl refl refl refl same
-                (cause_first (right_of prefix link brick lower) (with_right prefix link brick lower upper) files
-                prefix mid now f cause)
+          pub right_refused : IsOfFile file.Right f → Of (right_of prefix asked link brick lower) → OfProgram
+          right_refused same cause =
+              past_upper file.Right refl refl refl refl same
+              (cause_first (right_of prefix asked link brick lower) (with_right prefix asked link brick lower upper) before now prefix f cause)
 
-            module _ (right : Matrix) (right_read : Gives (right_of prefix link brick lower) right) where
-              past_right : (kind : FileKind) → Differ kind file.Link → Differ kind file.Brick → Differ kind file.Lower →
-                  Differ kind file.Upper → Differ kind file.Right → IsOfFile kind f →
-                  Of (with_right prefix link brick lower upper right) → OfProgram
-              past_right kind link_differs brick_differs lower_differs upper_differs differ same cause =
-                  past_upper kind link_differs brick_differs lower_differs upper_differs same
-                  (cause_rest (right_of prefix link brick lower) (with_right prefix link brick lower upper) files prefix
-                  mid mid now f kind right (omega arith)
-                  (record {
-                    told = right_read;
-                    others =
-                        λ fs. matrix_of_others fs prefix file.Right
-                        (exactly 1 (length link.rows + length lower.rows * length brick.rows)) kind differ;
-                  }) same cause)
+          module _ (right : Matrix) (right_read : Gives (right_of prefix asked link brick lower) right) where
+            past_right : (kind : FileKind) → Differ kind file.Link → Differ kind file.Brick → Differ kind file.Lower → Differ kind file.Upper → Differ kind file.Right → IsOfFile kind f → Of (with_right prefix asked link brick lower upper right) → OfProgram
+            past_right kind link_differs brick_differs lower_differs upper_differs differ same cause =
+                past_upper kind link_differs brick_differs lower_differs upper_differs same
+                (cause_rest (right_of prefix asked link brick lower) (with_right prefix asked link brick lower upper) before now prefix kind right
+                (record { told = right_read; others = λ fs. matrix_of_others fs prefix file.Right (exactly 1 (length link.rows + length lower.rows * length brick.rows)) kind differ }) f same cause)
 
-              pub cost_file_refused : IsOfFile file.Costs f → Of (costs_for prefix link lower) → OfProgram
+            pub relations_refused : IsOfFile file.Relations f → Of (relations_for prefix asked link) → OfProgram
+            relations_refused same cause =
+                past_right file.Relations refl refl refl refl refl same
+                (cause_first (relations_for prefix asked link) (with_relations prefix asked link brick lower upper right) before now prefix f cause)
+
+            module _ (relations : List Relation) (relations_read : Gives (relations_for prefix asked link) relations) where
+              past_relations : (kind : FileKind) → Differ kind file.Link → Differ kind file.Brick → Differ kind file.Lower → Differ kind file.Upper → Differ kind file.Right → Differ kind file.Relations → IsOfFile kind f → Of (with_relations prefix asked link brick lower upper right relations) → OfProgram
+              past_relations kind link_differs brick_differs lower_differs upper_differs right_differs differ same cause =
+                  past_right kind link_differs brick_differs lower_differs upper_differs right_differs same
+                  (cause_rest (relations_for prefix asked link) (with_relations prefix asked link brick lower upper right) before now prefix kind relations
+                  (record { told = relations_read; others = λ fs. relations_of_others fs prefix kind asked (length link.rows) differ }) f same cause)
+
+              pub cost_file_refused : IsOfFile file.Costs f → Of (costs_for prefix asked link lower) → OfProgram
               cost_file_refused same cause =
-                  past_right file.Costs refl refl refl refl refl same
-                  (cause_first (costs_for prefix link lower) (with_costs prefix link brick lower upper right) files
-                  prefix mid now f cause)
+                  past_relations file.Costs refl refl refl refl refl refl same
+                  (cause_first (costs_for prefix asked link lower) (with_costs prefix asked link brick lower upper right relations) before now prefix f cause)
 
               -- a fault of the program as a whole is of no file, so not of this one either
-              pub whole_refused : (costs : List Cost) → Gives (costs_for prefix link lower) costs →
-                  IsOfFile file.Plain f → Of (with_costs prefix link brick lower upper right costs) → OfProgram
+              pub whole_refused : (costs : List Cost) → Gives (costs_for prefix asked link lower) costs → IsOfFile file.Plain f → Of (with_costs prefix asked link brick lower upper right relations costs) → OfProgram
               whole_refused costs costs_read same cause =
-                  past_right file.Plain refl refl refl refl refl same
-                  (cause_rest (costs_for prefix link lower) (with_costs prefix link brick lower upper right) files
-                  prefix mid mid now f file.Plain costs (omega arith)
-                  (record {
-                    told = costs_read;
-                    others =
-                        λ fs. costs_of_others fs prefix (length lower.rows) link.cols file.Plain refl;
-                  }) same cause)
+                  past_relations file.Plain refl refl refl refl refl refl same
+                  (cause_rest (costs_for prefix asked link lower) (with_costs prefix asked link brick lower upper right relations) before now prefix file.Plain costs
+                  (record { told = costs_read; others = λ fs. costs_of_others fs prefix file.Plain (length lower.rows) link.cols refl }) f same cause)
+
+-- what each file gives makes the program
+pub program_read : (files : Option (List File)) (prefix : List ℕ) (asked : Bool) (link brick lower upper right : Matrix)
+    (relations : List Relation) (costs : List Cost) (p : Program)
+    → ForTold files (λ fs. link_of prefix asked fs ≡ Ok link) → ForTold files (λ fs. brick_of prefix asked link fs ≡ Ok brick)
+    → ForTold files (λ fs. lower_of prefix asked link fs ≡ Ok lower) → ForTold files (λ fs. upper_of prefix asked link lower fs ≡ Ok upper)
+    → ForTold files (λ fs. right_of prefix asked link brick lower fs ≡ Ok right)
+    → ForTold files (λ fs. relations_for prefix asked link fs ≡ Ok relations)
+    → ForTold files (λ fs. costs_for prefix asked link lower fs ≡ Ok costs)
+    → as_program relations (record { link = link; brick = brick; lower = lower; upper = upper; right = right; costs = costs }) ≡ Ok p
+    → ForTold files (λ fs. program_in fs prefix asked ≡ Ok p)
+program_read None prefix asked link brick lower upper right relations costs p l b lo up r rs cs made = tt
+program_read (Some fs) prefix asked link brick lower upper right relations costs p l b lo up r rs cs made =
+    rw (l, b, lo, up, r, rs, cs) made
 
 -- ---- the parts as they are read
 
@@ -261,28 +246,42 @@ none_misshaped p are =
       eq-eqb (length p.costs) (n * t) are.many,
     ) refl
 
-refused_whole : (p : PartsValue) (r : Refusal) → program_refusal (program_of p) ≡ Some r →
-    as_program p ≡ Err (Refused r)
-refused_whole p r is = rw (is, as_program) refl
+refused_whole : (relations : List Relation) (p : PartsValue) (r : Refusal) → program_refusal (program_of p) ≡ Some r →
+    as_program relations p ≡ Err (read.Program (refusal_fault r))
+refused_whole relations p r is = rw (is, as_program) refl
 
-stops_whole : (files : Option (List File)) (p : PartsValue) (f : ReadFault) (r : Refusal) →
-    stop_of f ≡ Some (Refused r) → program_refusal (program_of p) ≡ Some r
-    → StopsBy (λ fs. as_program p) files f
-stops_whole files p f r is refused = (Refused r, is, ForTold-all files _ (λ fs. refused_whole p r refused))
+stops_whole : (files : Option (List File)) (relations : List Relation) (p : PartsValue) (r : Refusal) →
+    program_refusal (program_of p) ≡ Some r →
+    ForTold files (λ fs. as_program relations p ≡ Err (read.Program (refusal_fault r)))
+stops_whole files relations p r refused = ForTold-all files _ (λ fs. refused_whole relations p r refused)
+
+-- parts of which nothing is refused make the program
+pub accepted_whole : (relations : List Relation) (p : PartsValue) → program_refusal (program_of p) ≡ None →
+    as_program relations p ≡ Ok (related relations (program_of p))
+accepted_whole relations p is = rw (is, as_program) refl
+
+-- which is one with each list of relations
+pub related_is_program : (relations : List Relation) (p : Program) → length relations ≡ length p.link.rows → IsProgram p →
+    IsProgram (related relations p)
+related_is_program relations p many is = record {
+  link_shape = is.link_shape;
+  brick_shape = is.brick_shape;
+  right_size = is.right_size;
+  relations_size = many;
+  each_brick = is.each_brick;
+}
 
 -- a fault of parts that are shaped is one of the program as a whole
-pub program_refused : (files : Option (List File)) (prefix : List ℕ) (before now : ℕ) (parts : Parts)
-    (fault : ProgramFault) → first_misshaped (parts_value parts) ≡ None
-    → IsProgramFault parts fault → IsReadCause (λ fs. as_program (parts_value parts)) files prefix before now
-    (whole_fault fault)
-program_refused files prefix before now parts (program.Shape kind) shaped cause = absurd (cc)
-program_refused files prefix before now parts (program.CrossedBounds i j) shaped cause =
-    stops_whole files (parts_value parts) (read.Program (program.CrossedBounds i j)) (Crossed i j) refl cause.1
-program_refused files prefix before now parts (program.Cost i j f) shaped cause =
-    stops_whole files (parts_value parts) (read.Program (program.Cost i j f)) (CostAt i j f) refl cause.1
-program_refused files prefix before now parts program.CostSumTooLarge shaped cause =
-    stops_whole files (parts_value parts) (read.Program program.CostSumTooLarge) CostSum refl cause.1
-program_refused files prefix before now parts program.Memory shaped cause = tt
+module _ (before now : Folder) (prefix : List ℕ) (relations : List Relation) (parts : Parts)
+    (shaped : first_misshaped (parts_value parts) ≡ None) where
+  pub program_refused : (fault : ProgramFault) → IsProgramFault parts fault →
+      IsReadCause (λ fs. as_program relations (parts_value parts)) before now prefix (whole_fault fault)
+  program_refused (program.Shape kind) cause = absurd (cc)
+  program_refused (program.CrossedBounds i j) cause =
+      (tt, stops_whole before.files relations (parts_value parts) (Crossed i j) cause.1)
+  program_refused (program.Cost i j f) cause = (tt, stops_whole before.files relations (parts_value parts) (CostAt i j f) cause.1)
+  program_refused program.CostSumTooLarge cause = (tt, stops_whole before.files relations (parts_value parts) CostSum cause.1)
+  program_refused program.Memory cause = tt
 
 -- and of no file
 pub whole_of_no_file : (kind : FileKind) (fault : ProgramFault) → IsOfFile kind (whole_fault fault)

@@ -4,7 +4,8 @@ use Rattle.std.proofs.Common.{append_assoc, arith}
 use Rattle.mat_files.specs.Tokens.{Token, and_then}
 use Rattle.fold_files.specs.declared.fault.CostFileFault.{CostFileFault}
 use Rattle.fold_files.specs.declared.fault.CostFileFault.TheVariants.{Syntax, Memory}
-use Rattle.fold_files.specs.CostText.{repeated, IsCostFileFault}
+use Rattle.fold_files.specs.Sequences.{repeated}
+use Rattle.fold_files.specs.CostText.{IsCostFileFault}
 
 module _ {A : Type 0} where
   -- what stands in front, and what is read

@@ -1,31 +1,15 @@
 -- Cost files: the costs that the tokens spell, or the place of the first token that cannot stand in its place.
-use Rattle.std.specs.Prelude.{◌≡◌, ℕ, zero, suc, ◌*◌, ◌^◌, ℤ, nat_le, ◌&&◌, List, [], ◌∷◌, length, cond, Option, Some}
-use Rattle.std.specs.Prelude.{None, Result, Ok, Err, bytes_eq, codes}
+use Rattle.std.specs.Prelude.{◌≡◌, ℕ, ◌*◌, ◌^◌, ℤ, nat_le, ◌&&◌, List, [], ◌∷◌, length, cond, Option, Some, None}
+use Rattle.std.specs.Prelude.{Result, Ok, Err, bytes_eq, codes}
 use Rattle.fold_theory.specs.declared.Cost.{Cost}
 use Rattle.fold_theory.specs.declared.Cost.TheVariants.{Quadratic, Points}
 use Rattle.fold_theory.specs.declared.Breakpoint.{Breakpoint}
 use Rattle.mat_files.specs.declared.numbers.Spelled.{Spelled}
 use Rattle.mat_files.specs.declared.numbers.Spelled.TheVariants.{NotNumber, TooBig, Value}
 use Rattle.mat_files.specs.Tokens.{Token, tokens, number_of, count_of, spelled, and_then}
+use Rattle.fold_files.specs.Sequences.{first_by, repeated, ended}
 use Rattle.fold_files.specs.declared.fault.CostFileFault.{CostFileFault}
 use Rattle.fold_files.specs.declared.fault.CostFileFault.TheVariants.{Syntax, Memory}
-
--- what this makes of the text of the first token, and the tokens after it
-abbrev pub first_by : {A : Type 0} → (List ℕ → Option A) → ℕ → List Token → Result (A × List Token) ℕ
-first_by read end [] = Err end
-first_by read end (t ∷ ts) = elim (read t.text) [ None ↦ Err t.at | Some a ↦ Ok (a, ts) ]
-
--- so many of what this reads, one after the other, and the tokens after them
-abbrev pub repeated : {A : Type 0} → (List Token → Result (A × List Token) ℕ) → ℕ → List Token →
-    Result (List A × List Token) ℕ
-repeated read zero ts = Ok ([], ts)
-repeated read (suc n) ts =
-    and_then (read ts) (λ a. and_then (repeated read n a.1) (λ rest. Ok (a.0 ∷ rest.0, rest.1)))
-
--- nothing follows
-abbrev pub ended : {A : Type 0} → A → List Token → Result A ℕ
-ended a [] = Ok a
-ended a (t ∷ ts) = Err t.at
 
 -- the number, where there is one that is not too big
 abbrev pub value_of : Spelled → Option ℤ

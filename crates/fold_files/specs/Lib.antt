@@ -1,4 +1,6 @@
+pub mod Sequences
 pub mod CostText
+pub mod RelationText
 pub mod Reading
 pub mod Faults
 pub mod Causes

@@ -3,7 +3,8 @@
 ghost use Rattle.std.specs.Prelude.{◌≡◌, ◌≤◌, ◌*◌, Ok, MatchResult, IfOk, All, IsTrue, length};
 ghost use Rattle.lattice_theory.specs.Vectors.{is_bounded};
 ghost use Rattle.convex_costs.specs.Bounds.{IsBoundedPoint, AreBounded};
-ghost use Rattle.fold_files.specs.CostText.{first_by, repeated, bounded_number, count_within, breakpoint_in, quadratic_in, points_in, cost_in, parsed_costs, IsCostFileFault};
+ghost use Rattle.fold_files.specs.Sequences.{first_by, repeated};
+ghost use Rattle.fold_files.specs.CostText.{bounded_number, count_within, breakpoint_in, quadratic_in, points_in, cost_in, parsed_costs, IsCostFileFault};
 
 use crate::fault::CostFileFault;
 use convex_costs::{Breakpoint, Breakpoints, Cost};

@@ -38,6 +38,38 @@ impl<T: Drop> From<AllocFailed<T>> for CostFileFault {
     }
 }
 
+/// Why a relation file is refused.
+#[derive(Clone, Copy, Debug, PartialEq, Eq, Drop, Error)]
+pub enum RelationFault {
+    /// The first token that cannot stand in its place: `at` is the place of its first byte in the file, from 0, or the
+    /// length of the file where it ends early.
+    #[error("the relation file is refused at byte {at}")]
+    Syntax { at: usize },
+    /// Memory ran out, which may happen at any call that allocates.
+    #[error("out of memory")]
+    Memory,
+}
+
+impl From<AllocError> for RelationFault {
+    ghost use Rattle.fold_files.specs.declared.fault.RelationFault.TheVariants as relation;
+
+    ghost from_gives = { λ _ e. e ≡ relation.Memory };
+
+    fn from(_: AllocError) -> RelationFault {
+        RelationFault::Memory
+    }
+}
+
+impl<T: Drop> From<AllocFailed<T>> for RelationFault {
+    ghost use Rattle.fold_files.specs.declared.fault.RelationFault.TheVariants as relation;
+
+    ghost from_gives = { λ _ e. e ≡ relation.Memory };
+
+    fn from(_: AllocFailed<T>) -> RelationFault {
+        RelationFault::Memory
+    }
+}
+
 /// Why the files of a program, of a point or of a matrix are refused: the first fault, in the order in which they are
 /// read.
 #[derive(Clone, Copy, Debug, PartialEq, Eq, Drop, Error)]
@@ -61,6 +93,10 @@ pub enum ReadFault {
     /// Memory ran out, which may happen at any call that allocates.
     #[error("out of memory")]
     Memory,
+    /// The relation file is refused at this byte, from 0: at the first token that cannot stand in its place, or at the
+    /// end where it ends early.
+    #[error("the relation file is refused at byte {at}")]
+    Relations { at: usize },
 }
 
 impl From<AllocError> for ReadFault {
@@ -82,6 +118,19 @@ impl From<CostFileFault> for ReadFault {
         match fault {
             CostFileFault::Syntax { at } => ReadFault::Costs { at },
             CostFileFault::Memory => ReadFault::Memory,
+        }
+    }
+}
+
+impl From<RelationFault> for ReadFault {
+    ghost use Rattle.fold_files.specs.Faults.{relations_fault};
+
+    ghost from_gives = { λ fault e. e ≡ relations_fault fault };
+
+    fn from(fault: RelationFault) -> ReadFault {
+        match fault {
+            RelationFault::Syntax { at } => ReadFault::Relations { at },
+            RelationFault::Memory => ReadFault::Memory,
         }
     }
 }

@@ -4,7 +4,9 @@
 mod cost_file;
 mod fault;
 mod files;
+mod relation_file;
 
 pub use cost_file::parse_costs;
-pub use fault::{CostFileFault, ReadFault};
-pub use files::{read_certificate, read_plain, read_point, read_program};
+pub use fault::{CostFileFault, ReadFault, RelationFault};
+pub use files::{file_name, read_certificate, read_plain, read_point, read_program};
+pub use relation_file::parse_relations;

@@ -38,7 +38,7 @@ fn shelf_of(
 #[test]
 fn reads_a_program_and_its_point(rt: HostRuntime) -> Result<(), Fail> {
     let mut shelf = shelf_of(&rt, rt.alloc(), &FILES)?;
-    let program = read_program(rt.alloc(), &mut shelf, "t")?;
+    let program = read_program(rt.alloc(), &mut shelf, "t", false)?;
     assert_eq!(rt; (program.n(), program.t()), (2, 2));
     assert_eq!(rt; (program.r(), program.s()), (1, 1));
     let point = read_point(rt.alloc(), &mut shelf, "t", &program)?;
@@ -80,7 +80,7 @@ fn fault_with(
     let mut files = FILES;
     files[place] = file;
     let mut shelf = shelf_of(rt, alloc, &files)?;
-    Ok(read_program(alloc, &mut shelf, "t").err())
+    Ok(read_program(alloc, &mut shelf, "t", false).err())
 }
 
 #[test]
@@ -111,10 +111,70 @@ fn a_point_has_an_entry_for_each_column(rt: HostRuntime) -> Result<(), Fail> {
     let mut files = FILES;
     files[6] = ("t.pt", "2 2\n1 3\n2\n");
     let mut shelf = shelf_of(&rt, rt.alloc(), &files)?;
-    let program = read_program(rt.alloc(), &mut shelf, "t")?;
+    let program = read_program(rt.alloc(), &mut shelf, "t", false)?;
     let refused = read_point(rt.alloc(), &mut shelf, "t", &program).err();
     let file = FileKind::Point;
     let fault = MatFault::EndsEarly { at: 10 };
     assert_eq!(rt; refused, Some(ReadFault::Form { file, fault }));
+    Ok(())
+}
+
+/// What reading the program with this relation file gives: the relation of its linking row, or the fault.
+fn relation_with(
+    rt: &impl Abort,
+    alloc: Global,
+    text: &str,
+) -> Result<Result<Option<Relation>, ReadFault>, AllocError> {
+    let mut files = FILES;
+    files[6] = ("t.rel", text);
+    let mut shelf = shelf_of(rt, alloc, &files)?;
+    Ok(read_program(alloc, &mut shelf, "t", true).map(|program| program
+        .relations()
+        .first()
+        .copied()))
+}
+
+#[test]
+fn reads_relations_where_they_are_asked_for(rt: HostRuntime) -> Result<(), Fail> {
+    let alloc = rt.alloc();
+    for (text, read) in [
+        ("1 1\n<\n", Ok(Some(Relation::Less))),
+        ("1 1 >", Ok(Some(Relation::Greater))),
+        ("1 2 < <", Err(ReadFault::Relations { at: 2 })),
+        ("1 1\n~", Err(ReadFault::Relations { at: 4 })),
+        ("1 1\n", Err(ReadFault::Relations { at: 4 })),
+    ] {
+        assert_eq!(rt; relation_with(&rt, alloc, text)?, read);
+    }
+    let mut shelf = shelf_of(&rt, alloc, &FILES)?;
+    let absent = read_program(alloc, &mut shelf, "t", true).err();
+    let file = FileKind::Relations;
+    assert_eq!(rt; absent, Some(ReadFault::Shelf { file }));
+    let program = read_program(alloc, &mut shelf, "t", false)?;
+    assert_eq!(rt; program.relations(), [Relation::Equal].as_slice());
+    Ok(())
+}
+
+// A file before the relations is refused first, and one after them later.
+#[test]
+fn relations_are_read_after_the_right_sides(rt: HostRuntime) -> Result<(), Fail> {
+    let alloc = rt.alloc();
+    let mut files = FILES;
+    files[6] = ("t.rel", "1 1 ~");
+    files[5] = ("t.cost", "2 2");
+    let mut shelf = shelf_of(&rt, alloc, &files)?;
+    let fault = read_program(alloc, &mut shelf, "t", true).err();
+    assert_eq!(rt; fault, Some(ReadFault::Relations { at: 4 }));
+    files[4] = ("t.rhs", "1 3");
+    let mut shelf = shelf_of(&rt, alloc, &files)?;
+    let fault = read_program(alloc, &mut shelf, "t", true).err();
+    let (file, fault_at) = (FileKind::Right, MatFault::EndsEarly { at: 3 });
+    assert_eq!(rt;
+        fault,
+        Some(ReadFault::Form {
+            file,
+            fault: fault_at
+        })
+    );
     Ok(())
 }

@@ -1,6 +1,7 @@
 use Rattle.std.proofs.Common.{◌≡◌, ◌-◌, length, All}
 use Rattle.convex_costs.specs.Bounds.{AreBounded}
-use Rattle.fold_files.specs.CostText.{repeated, cost_in}
+use Rattle.fold_files.specs.Sequences.{repeated}
+use Rattle.fold_files.specs.CostText.{cost_in}
 use Rattle.fold_files.proofs.RepeatLaws.{with_front}
 use Rattle.fold_files.proofs.cost_file.costs.Given as goal
 

@@ -1,4 +1,4 @@
-use Rattle.std.proofs.Common.{◌^◌, ap, subst, List, ℕ}
+use Rattle.std.proofs.Common.{◌^◌, subst, List, ℕ, refl}
 use Rattle.fold_files.specs.CostText.{parsed_costs, IsCostFileFault}
 use Rattle.fold_files.specs.Reading.{bytes_of, as_costs, costs_of}
 use Rattle.fold_files.specs.Faults.{costs_fault}
@@ -13,11 +13,6 @@ returns-in_err-parse_costs-clause-refused g c =
     let parsed = subst (λ (bytes : List ℕ). IsCostFileFault (parsed_costs c.args.n c.args.t bytes) fault)
     c.deref.ensures.value c.in_err-parse_costs.ensures.parsed in
     of_error c.from_residual-in_err-parse_costs.result (costs_fault fault)
-    (IsReadCause (λ fs. costs_of fs c.args.prefix.now c.args.n c.args.t) (g.S.Shelf.files c.args.shelf.now)
-    c.args.prefix.now (g.S.Shelf.read_faults c.args.shelf.now) (g.S.Shelf.read_faults c.read_bytes.new.shelf))
-    c.from_residual-in_err-parse_costs.ensures.1
-    (costs_refused _ (λ fs. bytes_of fs c.args.prefix.now Costs (2 ^ 26)) c.in_ok-bytes.bytes.items c.args.prefix.now
-    _ _
-    (λ bytes. as_costs (parsed_costs c.args.n c.args.t bytes))
-    (parsed_costs c.args.n c.args.t c.in_ok-bytes.bytes.items) fault c.in_ok-bytes.ensures.bytes
-    (λ at is. ap as_costs is) parsed)
+    (IsReadCause (λ fs. costs_of fs c.args.prefix.now c.args.n c.args.t) (g.S.Shelf.seen c.args.shelf.now) (g.S.Shelf.seen c.read_bytes.new.shelf) c.args.prefix.now) c.from_residual-in_err-parse_costs.ensures.1
+    (costs_refused (g.S.Shelf.seen c.args.shelf.now) (g.S.Shelf.seen c.read_bytes.new.shelf) c.args.prefix.now (λ fs. bytes_of fs c.args.prefix.now Costs (2 ^ 26)) c.in_ok-bytes.bytes.items
+    c.in_ok-bytes.ensures.bytes (parsed_costs c.args.n c.args.t) as_costs (λ at. refl) fault parsed)
