@@ -11,7 +11,7 @@ use Rattle.lattice_theory.specs.SignedSums.{Sum, IsSignedSum, HasLevel, AreSums,
 use Rattle.lattice_laws.proofs.Tests.{same_refl}
 use Rattle.lattice_laws.proofs.Members.{contains_cases, contains_head, contains_tail}
 use Rattle.lattice_laws.proofs.Conformal.{length-add}
-use Rattle.lattice_laws.proofs.Products.{rows-add, rows-zeros, length-zeros}
+use Rattle.lattice_laws.proofs.Products.{rows-add, rows-zeros, length-zeros, rows-sub}
 use Rattle.run_theory.specs.Certificates.{sum_of_row}
 use Rattle.run_theory.specs.Outcomes.{row_of_sum}
 use Rattle.run_theory.specs.Checker.{is_sum_within, sums_are_closed}

@@ -1,0 +1,5 @@
+pub mod KeptLaws
+pub mod SumLaws
+pub mod TargetLaws
+pub mod ReachLaws
+pub mod FlagLaws

@@ -1,0 +1,19 @@
+-- Where moves lead from sums.
+use Rattle.std.specs.Prelude.{◌≡◌, ℕ, ℤ, pos, neg_ℤ, ◌^◌, ◌≤ℤ◌, ◌<ℤ◌, List, length, Option, Some, Vec, slice_get}
+use Rattle.std.specs.declared.alloc.Global.{Global}
+use Rattle.lattice_theory.specs.Vectors.{Vector}
+use Rattle.sieve_laws.specs.Sieve.{IsTarget}
+
+-- the place to which the move at place h leads from each sum
+pub record IsTargetRow (zs : List Vector) (h : ℕ) (row : List (Option ℕ)) : Type 0 where
+  pub size : length row ≡ length zs
+  pub each : (w : ℕ) (to : Option ℕ) → slice_get row w ≡ Some to → IsTarget zs h w to
+
+-- the same for each move
+pub record AreTargets (zs : List Vector) (rows : List (Vec (Option ℕ) Global)) : Type 0 where
+  pub size : length rows ≡ length zs
+  pub each : (h : ℕ) (row : Vec (Option ℕ) Global) → slice_get rows h ≡ Some row → IsTargetRow zs h row.items
+
+-- an entry that a word holds
+abbrev pub IsWord : ℤ → Type 0
+IsWord a = (neg_ℤ (pos (2 ^ 63)) ≤ℤ a) × (a <ℤ pos (2 ^ 63))

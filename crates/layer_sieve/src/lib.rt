@@ -1,0 +1,21 @@
+//! The layers of the layered programme as a sieve: how one layer of least costs comes from the next one by the moves of
+//! a brick, where a move that can lower no cell is left out, and how the best move is read off.
+//!
+//! For a layer and a move it is enough to know how much more a sum costs than the one to which the move leads. A brick
+//! none of whose moves costs less than that leaves the layer as it is.
+#![tactic(auto)]
+
+mod choices;
+mod layers;
+mod lowering;
+mod moves;
+mod reaching;
+mod targets;
+mod tops;
+
+pub use choices::{Choice, first_choice};
+pub use layers::Layers;
+pub use lowering::lower_by;
+pub use moves::Moves;
+pub use sieve_laws::PricedMove;
+pub use targets::Targets;

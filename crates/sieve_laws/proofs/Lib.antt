@@ -1,0 +1,4 @@
+pub mod Cells
+pub mod Lowering
+pub mod Tops
+pub mod Rows
