@@ -23,7 +23,7 @@ use Rattle.fold_theory.proofs.KnownValues.{square, free}
 use Rattle.fold_laws.proofs.KnownValues.{one_row}
 use Rattle.certificate_laws.proofs.Accepted.{stuck_is_accepted, outcome_is_accepted}
 use Rattle.outcome_laws.proofs.KnownValues.{convex_at_four, small_program, small_is_a_program, bases, they_are_bases, zero_vector, they_are_sums, sums, only_sum, point, small_outcome, it_is_optimal}
-use Rattle.certificate_laws.proofs.KnownValues.{row, pair, basis, it_is_slack}
+use Rattle.outcome_laws.proofs.KnownBases.{row, pair, basis, it_is_slack}
 
 -- ---- a brick that is stuck
 

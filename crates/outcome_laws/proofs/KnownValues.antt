@@ -1,26 +1,22 @@
 -- The laws at values worked by hand: a brick with the row v = 4 whose bounds leave 4 alone, where the linking row, v at
 -- most 5, is met too. Its outcome is reached with one element of a basis and one sum, and with fewer a limit is passed.
-use Rattle.std.specs.Prelude.{◌≡◌, ℕ, suc, zero, ◌≤◌, ℤ, pos, negsuc, ◌+ℤ◌, ◌*ℤ◌, true, List, [], ◌∷◌, length, Contains, None, Some, refl}
-use Rattle.std.proofs.Common.{◌<◌, ◌^◌, unsigned_abs, lit<, lit≤, arith, ap, sym, ◌∙◌, inl, inr, subst, get_or}
+use Rattle.std.specs.Prelude.{◌≡◌, ℕ, suc, zero, ◌≤◌, ℤ, pos, List, [], ◌∷◌, length, Contains, None, Some, refl}
+use Rattle.std.proofs.Common.{◌<◌, ◌^◌, unsigned_abs, lit<, lit≤, arith, ap, sym, inl, inr, subst}
 use Rattle.std.proofs.lemmas.Int.{ints}
-use Rattle.std.proofs.lemmas.Bool.Decides.{nat_tests}
-use Rattle.std.proofs.lemmas.List.Elements.{All-head, All-nil, All-from_recursion, recursion_from_All}
+use Rattle.std.proofs.lemmas.List.Elements.{All-head, All-nil, All-from_recursion}
 use Rattle.std.specs.List.{list_all}
 use Rattle.fold_theory.specs.declared.Phase.TheVariants.{Closed}
 use Rattle.fold_theory.specs.declared.Relation.TheVariants.{Less}
 use Rattle.fold_theory.specs.declared.Verdict.TheVariants.{Optimal}
 use Rattle.run_theory.specs.declared.SolveFault.{SolveFault}
 use Rattle.run_theory.specs.declared.SolveFault.TheVariants.{BrickBasis, Sums}
-use Rattle.lattice_theory.specs.Vectors.{Vector, ◌⊑◌, is_zero, leads_positive}
-use Rattle.lattice_theory.specs.Matrices.{Matrix, HasShape}
-use Rattle.lattice_theory.specs.Lattices.{IsMinimal}
+use Rattle.lattice_theory.specs.Vectors.{Vector, is_zero}
+use Rattle.lattice_theory.specs.Matrices.{HasShape}
 use Rattle.lattice_theory.specs.BasisLimits.{IsBasisElement, IsNarrow, IsBasisWithin}
 use Rattle.lattice_theory.specs.SignedSums.{Sum, IsSignedSum, HasLevel}
 use Rattle.lattice_theory.proofs.KnownValues.{two}
 use Rattle.lattice_laws.proofs.Tests.{not_both}
 use Rattle.lattice_laws.proofs.Members.{contains_cases, contains_head}
-use Rattle.lattice_laws.proofs.Elements.{element-lifted}
-use Rattle.lattice_laws.proofs.UnitVectors.{without_rows, first_units, units_elements}
 use Rattle.fold_theory.specs.Costs.{value, IsConvexOn}
 use Rattle.fold_theory.specs.Programs.{Program, Brick, Bricks, IsBrick, IsProgram}
 use Rattle.run_theory.specs.Links.{Bases, AreBases}
@@ -31,6 +27,7 @@ use Rattle.run_theory.specs.Outcomes.{RunRecord, IsRecorded, Outcome, IsOutcome}
 use Rattle.run_theory.specs.Limits.{Caps, LinkStageWithin, IsLimit}
 use Rattle.run_theory.specs.Solved.{IsWithinCaps}
 use Rattle.fold_theory.proofs.KnownValues.{square}
+use Rattle.outcome_laws.proofs.KnownBases.{one, units, unit_is, one_is_slack, no_columns, none_is_slack}
 use Rattle.outcome_laws.proofs.OneLimit.{limit_unique, within_excludes}
 
 -- there is no number between 4 and 4
@@ -38,9 +35,6 @@ pub convex_at_four : (f : ℤ → ℤ) → IsConvexOn f (pos 4) (pos 4)
 convex_at_four f v low high = absurd (omega (arith, ints, low, high))
 
 -- ---- the program and its outcome
-
-abbrev pub one : Matrix
-one = record { cols = 1; rows = (pos 1 ∷ []) ∷ [] }
 
 -- the row is met at 4 alone
 abbrev pub small_brick : Brick
@@ -81,61 +75,12 @@ small_is_a_program = record {
   );
 }
 
-head_same : (u v : ℤ) → u ∷ [] ≡ v ∷ [] → u ≡ v
-head_same u v e = ap (λ w. get_or w 0 (pos 0)) e
-
--- the link matrix of no generators
-abbrev no_columns : Matrix
-no_columns = record { cols = 0; rows = [] ∷ [] }
-
 -- no vector but 0 has the product 0 with the row, so there are no generators
 abbrev pub bases : Bases
-bases = record { brick = two (pos 1) (pos 1) ∷ []; links = [] }
-
--- (1, 1) is below each element that leads positive
-unit_is : IsBasisElement one (two (pos 1) (pos 1))
-unit_is =
-    element-lifted (without_rows 1) (one).rows (pos 1 ∷ [])
-    (recursion_from_All (IsBasisElement (without_rows 1)) (first_units 1 1) (units_elements 1)).0
-
-unit_alone : (z : Vector) → IsMinimal one z → leads_positive z ≡ true → Contains bases.brick z
-unit_alone [] minimal leads = absurd (cc)
-unit_alone (a ∷ []) minimal leads = absurd (omega (arith, minimal.member.size))
-unit_alone (a ∷ b ∷ c ∷ z) minimal leads = absurd (omega (arith, minimal.member.size))
-unit_alone (negsuc n ∷ b ∷ []) minimal leads = absurd (cc)
-unit_alone (pos zero ∷ b ∷ []) minimal leads =
-    let image : b ≡ pos 0 = head_same b (pos 0) minimal.member.image in
-    absurd (not_both (leads_positive (b ∷ [])) leads (ap (λ c. leads_positive (c ∷ [])) image))
-unit_alone (pos (suc n) ∷ b ∷ []) minimal leads =
-    let image : b ≡ pos (suc n) =
-    head_same b (pos 1 *ℤ pos (suc n) +ℤ pos 0) minimal.member.image ∙ times_one (suc n) in
-    let below : two (pos 1) (pos 1) ⊑ two (pos (suc n)) b =
-    subst (λ c. two (pos 1) (pos 1) ⊑ two (pos (suc n)) c) (sym image) (one_below n) in
-    let same = minimal.least (two (pos 1) (pos 1)) unit_is.0.member refl below in
-    subst (Contains bases.brick) same (contains_head (two (pos 1) (pos 1)) [])
-  where
-    times_one : (m : ℕ) → pos 1 *ℤ pos m +ℤ pos 0 ≡ pos m
-    times_one m = omega (arith, ints)
-
-    one_below : (m : ℕ) → two (pos 1) (pos 1) ⊑ two (pos (suc m)) (pos (suc m))
-    one_below m = grind (arith, nat_tests, ints)
+bases = record { brick = units; links = [] }
 
 pub they_are_bases : AreBases small_program bases
-they_are_bases = record {
-  brick = record {
-    rising = refl;
-    sound = All-from_recursion (IsBasisElement one) bases.brick (unit_is, tt);
-    complete = unit_alone;
-  };
-  links = record { rising = refl; sound = All-nil (IsBasisElement no_columns); complete = none_there };
-}
-  where
-    none_there : (z : Vector) → IsMinimal no_columns z → leads_positive z ≡ true → Contains [] z
-    none_there [] minimal leads = absurd (cc)
-    none_there (a ∷ b ∷ z) minimal leads = absurd (omega (arith, minimal.member.size))
-    none_there (a ∷ []) minimal leads =
-        let image : a ≡ pos 0 = head_same a (pos 0) minimal.member.image in
-        absurd (not_both (leads_positive (a ∷ [])) leads (ap (λ c. leads_positive (c ∷ [])) image))
+they_are_bases = record { brick = one_is_slack; links = none_is_slack }
 
 -- of no generators 0 is the one sum
 abbrev pub zero_vector : Vector

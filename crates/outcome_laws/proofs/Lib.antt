@@ -4,4 +4,6 @@ pub mod SettledBricks
 pub mod OneOutcome
 pub mod OneLimit
 pub mod OneCertificate
+pub mod KnownBases
 pub mod KnownValues
+mod KnownLimits
