@@ -1,11 +1,11 @@
 -- The best step of the first lengths: none at first, then one more length at a time, and at the end the rule's step.
-use Rattle.std.proofs.Common.{◌≡◌, ◌≢◌, ℕ, ◌+◌, ◌<◌, ◌≤◌, ◌↔◌, ◌≤ℤ◌, ◌<ℤ◌, false, Option, Some, None, IsTrue, sym, subst, arith, inl, inr}
+use Rattle.std.proofs.Common.{◌≡◌, ◌≢◌, ℕ, ◌+◌, ◌<◌, ◌≤◌, ◌↔◌, ◌≤ℤ◌, ◌<ℤ◌, false, pos, Option, Some, None, IsTrue, sym, subst, arith, inl, inr}
 use Rattle.std.proofs.lemmas.Int.{ints}
 use Rattle.std.proofs.lemmas.Bool.{cases_order}
 use Rattle.run_theory.specs.declared.Key.{Key}
 use Rattle.lattice_theory.specs.SignedSums.{vectors}
 use Rattle.fold_theory.specs.Programs.{Bricks, IsLength}
-use Rattle.run_theory.specs.Steps.{Move, IsBest}
+use Rattle.run_theory.specs.Steps.{Move, gain, IsBest, IsGain}
 use Rattle.run_theory.specs.Outcomes.{Step}
 use Rattle.run_theory.specs.Keys.{beats, beaten}
 use Rattle.run_theory.specs.Folds.{FoldValue}
@@ -21,6 +21,15 @@ module _ (f : FoldValue) (x : Bricks) where
   best_worth k h g best a =
       let low = later_costs f x (move f x k h) (move f x k g) (best.first g a) in
       omega (arith, ints, low, worth_after f x k h best.augments, worth_after f x k g a)
+
+  -- so what it gains is the gain of its length
+  pub found_gain : (k : ℕ) (s : Step) → IsFound f x k s → IsGain f.program f.phase (vectors f.sums) x k (Some s.gain)
+  found_gain k s (h, best, is) =
+      subst (λ (t : Step). IsGain f.program f.phase (vectors f.sums) x k (Some t.gain)) (sym is)
+      ((h, best.augments, sym (worth_is k h best.augments)), λ g a. best_worth k h g best a)
+    where
+      worth_is : (k : ℕ) (h : Bricks) → Gains f x k h → pos (worth f x k h) ≡ gain f.program f.phase x k h
+      worth_is k h a = omega (arith, ints, a.lowers)
 
   -- the key beats that of each step of the length that gains
   abbrev pub BeatsLength : Key → ℕ → Type 0

@@ -19,7 +19,7 @@ use Rattle.run_theory.specs.Outcomes.{Step}
 use Rattle.run_theory.specs.Folds.{FoldValue}
 use Rattle.run_theory.specs.Bests.{IsBestOfLength, IsFound, IsBeaten, AreGains, IsBestByGains, IsRuleStep}
 use Rattle.rule_laws.specs.BestUpTo.{key_of}
-use Rattle.rule_laws.proofs.BestUpTo.{beating_step, best_none, best_takes, best_keeps, best_all}
+use Rattle.rule_laws.proofs.BestUpTo.{found_gain, beating_step, best_none, best_takes, best_keeps, best_all}
 use Rattle.rule_laws.proofs.Gains.{best_gain}
 
 abbrev ahead : Vector
@@ -243,6 +243,10 @@ found_once = (the_move, only_of_length 0 gains_once refl, refl)
 
 found_twice : IsFound the_fold the_point 1 twice_step
 found_twice = (the_move, only_of_length 1 gains_twice refl, refl)
+
+-- what it gains is the gain of its length
+pub gain_once : IsGain the_program Closed the_sums the_point 0 (Some 4)
+gain_once = found_gain the_fold the_point 0 the_step found_once
 
 -- by the gains of all lengths
 pub by_gains : IsRuleStep the_fold the_point (Some the_step)

@@ -6,6 +6,7 @@
 ghost use Rattle.std.specs.Prelude.{◌≡◌, ◌≢◌, ℕ, ◌+◌, ◌<◌, ◌↔◌, false, List, Option, Some, None};
 ghost use Rattle.lattice_theory.specs.SignedSums.{vectors};
 ghost use Rattle.fold_theory.specs.Programs.{Bricks, IsLength};
+ghost use Rattle.run_theory.specs.Steps.{IsGain};
 ghost use Rattle.run_theory.specs.Outcomes.{Step};
 ghost use Rattle.run_theory.specs.Keys.{beaten};
 ghost use Rattle.run_theory.specs.Folds.{FoldValue};
@@ -41,6 +42,12 @@ pub fn a_step_that_is_not_beaten_is_the_best()
 pub fn the_best_of_all_lengths_is_the_rules_step()
     ensures { (f : FoldValue) (x : Bricks) (n : ℕ) (best : Option Step) →
         ((k : ℕ) → (k < n) ↔ IsLength f.program k) → IsBestUpTo f x n best → IsRuleStep f x best }
+{}
+
+/// Law: what the best step of a length gains is the gain of that length.
+pub fn the_best_step_has_the_gain_of_its_length()
+    ensures { (f : FoldValue) (x : Bricks) (k : ℕ) (s : Step) →
+        IsFound f x k s → IsGain f.program f.phase (vectors f.sums) x k (Some s.gain) }
 {}
 
 /// Law: where the gains of all lengths are known, the best step of the length that is best by them is the rule's step.
