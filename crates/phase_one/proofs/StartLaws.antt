@@ -22,7 +22,7 @@ use Rattle.phase_one.specs.Started.{lists}
 
 rows_of-append : (k t : ℕ) (entries v : Vector) → length entries ≡ k * t → length v ≡ t →
     rows_of (suc k) t (entries ++ v) ≡ rows_of k t entries ++ v ∷ []
-rows_of-append zero t [] v size width = ap (λ w. w ∷ []) (ap (λ n. take n v) (sym width) ∙ take_all v (length v) (omega arith))
+rows_of-append zero t [] v size width = ap (λ w. w ∷ []) (ap (λ n. take n v) (sym width) ∙ take_all (length v) v (omega arith))
 rows_of-append zero t (a ∷ entries) v size width = absurd (omega arith)
 rows_of-append (suc k) t entries v size width =
     let fits : t ≤ length entries = omega arith in
@@ -139,7 +139,7 @@ module _ (p : Program) (basis : List Vector) where
       AreJoined k traces entries → AreStart traces entries
   joined_all k traces entries program many so_far =
       let all : k ≡ length p.bricks = omega (arith, so_far.few) in
-      let bricks : take k p.bricks ≡ p.bricks = take_all p.bricks k many in
+      let bricks : take k p.bricks ≡ p.bricks = take_all k p.bricks many in
       let settled : AllSettle p basis p.bricks (lists traces) (rows_of (length p.bricks) p.link.cols entries) = rw (bricks, all) at so_far.settled in
       let within : AreWithin p.bricks (rows_of (length p.bricks) p.link.cols entries) = rw (bricks, all) at so_far.within in
       let sizes = recursion_from_All (IsBrick p.link.cols (length p.brick.rows)) p.bricks program.each_brick in

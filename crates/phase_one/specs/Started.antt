@@ -9,8 +9,8 @@ use Rattle.run_theory.specs.Outcomes.{AllSettle, FirstStuck}
 use Rattle.run_theory.specs.Starts.{IsStart}
 use Rattle.fold_program.specs.Points.{HasPointShape}
 use Rattle.fold_program.specs.Places.{OfBrick}
-use Rattle.phase_one.specs.declared.starting.Start.{Start}
-use Rattle.phase_one.specs.declared.starting.Start.TheVariants.{Ready, Stuck}
+use Rattle.phase_one.specs.declared.ends.Start.{Start}
+use Rattle.phase_one.specs.declared.ends.Start.TheVariants.{Ready, Stuck}
 
 -- the steps of each run
 abbrev pub lists : List (Vec BrickMove Global) → List (List BrickMove)

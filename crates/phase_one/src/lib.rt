@@ -2,8 +2,13 @@
 //! the linking rows says which phase comes first.
 #![tactic(auto)]
 
+mod ends;
 mod phases;
 mod starting;
 
+pub use ends::Start;
 pub use phases::{counted, judge};
-pub use starting::{Start, start};
+pub use starting::start;
+
+#[cfg(test)]
+mod tests;

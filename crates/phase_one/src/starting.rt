@@ -4,28 +4,11 @@ ghost use Rattle.std.specs.Prelude.{IfOk};
 ghost use Rattle.lattice_theory.specs.Lattices.{IsSlackBasis};
 ghost use Rattle.phase_one.specs.Started.{IsStarted};
 
-use brick_phase::{BrickEnd, BrickStep, settle_brick};
+use crate::ends::Start;
+use brick_phase::{BrickEnd, settle_brick};
 use fold_program::{Point, Program};
 use pottier::Basis;
 use std::alloc::{AllocError, Global};
-
-/// How the runs of the bricks end, with the steps of each run, brick by brick.
-#[derive(Debug, Drop)]
-pub enum Start {
-    /// Every brick meets its rows. The point joins the ends of their runs.
-    Ready {
-        point: Point,
-        traces: Vec<Vec<BrickStep>>,
-    },
-    /// This brick, numbered from 1, is the first that is stuck: its run, which is the last one, ends at the point, and misses
-    /// its rows by the residual, which is above 0.
-    Stuck {
-        brick: u32,
-        point: Vec<i64>,
-        traces: Vec<Vec<BrickStep>>,
-        residual: u128,
-    },
-}
 
 /// Brings the bricks to meet their rows, one after the other, until one is stuck.
 ///
