@@ -75,7 +75,7 @@ module _ (zs : List Vector) (rising : is_rising zs ≡ true) (menu : Menu) (next
   NoneOf n = (i : ℕ) → i < n → Goes zs menu next w i c → ⊥
 
   pub choice_here : (n : ℕ) (m : PricedMove) (r : Reach) → slice_get menu n ≡ Some m → Leads zs m.place w r.to → slice_get next r.to ≡ Some (Some r.rest) →
-      c ≡ (m.change +ℤ r.rest) → NoneOf n → IsChoice zs menu next w c (record { place = m.place; to = r.to })
+      c ≡ (m.change +ℤ r.rest) → NoneOf n → IsChoice zs menu next w c (record { place = m.place; to = r.to; rest = r.rest })
   choice_here n m r there leads cell is none = record {
     i = n;
     first = record {
@@ -84,6 +84,7 @@ module _ (zs : List Vector) (rising : is_rising zs ≡ true) (menu : Menu) (next
     };
     place = refl;
     to = refl;
+    rest = refl;
   }
 
   pub choice_later : (n : ℕ) (m : PricedMove) (o : Option Reach) → slice_get menu n ≡ Some m → IsReach zs next m.place w o →

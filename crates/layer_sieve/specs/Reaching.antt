@@ -26,3 +26,4 @@ pub record IsChoice (zs : List Vector) (menu : Menu) (next : Layer) (w : ℕ) (c
   pub first : IsFirst zs menu next w i c
   pub place : choice.place ≡ (first.goes.move).place
   pub to : choice.to ≡ first.goes.reach.to
+  pub rest : choice.rest ≡ first.goes.rest

@@ -10,11 +10,12 @@ use crate::reaching::reached_from;
 use crate::targets::Targets;
 use sieve_laws::PricedMove;
 
-/// A move, by its place in the list of sums, and the place of the sum to which it leads.
+/// A move, by its place in the list of sums, the place of the sum to which it leads, and what walks cost from there.
 #[derive(Clone, Copy, Debug, PartialEq, Eq, Drop)]
 pub struct Choice {
     pub place: u32,
     pub to: u32,
+    pub rest: i128,
 }
 
 /// The first move of a menu from a sum that costs this much together with the least walk behind it.
@@ -40,6 +41,7 @@ pub fn first_choice(
             return Some(Choice {
                 place: m.place,
                 to: reached.to,
+                rest: reached.rest,
             });
         }
     }

@@ -26,23 +26,23 @@ impl Model for Layers {
 }
 
 impl Layers {
-    /// This layer alone.
-    pub fn new(alloc: Global, layer: Vec<Option<i128>>) -> Result<Layers, AllocError>
-        ensures { IfOk result (λ l. l ≡ layer.items ∷ []) }
+    /// A copy of this layer alone.
+    pub fn new(alloc: Global, layer: &[Option<i128>]) -> Result<Layers, AllocError>
+        ensures { IfOk result (λ l. l ≡ layer.now ∷ []) }
     {
         let mut rows = Vec::new(alloc);
-        rows.push(layer)?;
+        rows.push(layer.to_vec(alloc)?)?;
         let mut places = Vec::new(alloc);
         places.push(0)?;
         Ok(Layers { rows, places })
     }
 
-    /// One more layer.
-    pub fn push(&mut self, layer: Vec<Option<i128>>) -> Result<(), AllocError>
-        ensures { OnOk result (self.new ≡ self.old ++ layer.items ∷ []) }
+    /// One more layer, a copy of this one.
+    pub fn push(&mut self, alloc: Global, layer: &[Option<i128>]) -> Result<(), AllocError>
+        ensures { OnOk result (self.new ≡ self.old ++ layer.now ∷ []) }
     {
         let place = self.rows.len();
-        self.rows.push(layer)?;
+        self.rows.push(layer.to_vec(alloc)?)?;
         self.places.push(place)?;
         Ok(())
     }

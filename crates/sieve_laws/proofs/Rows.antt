@@ -118,6 +118,52 @@ module _ (p : Program) (phase : Phase) (zs : List Vector) (k : ℕ) (rests : Vec
         end : slice_get zs goes.reach.to ≡ Some (add w d)
         end = leads.end ∙ ap (λ u. Some (add u d)) (at_same (slice_get zs at) leads.from w leads.start start)
 
+    -- least costs before the brick are those of the layer over the next one
+    pub row_is_over : (layer : Layer) → LeastRow (b ∷ bs) (v ∷ x) layer → IsLayerOver zs menu next layer
+    row_is_over layer row = record { size = row.size; attained = attained; least = most }
+      where
+        behind : (w i : ℕ) (u : Vector) (c : ℤ) → slice_get zs w ≡ Some u → (goes : Goes zs menu next w i c) → (h : Bricks) × Costs (b ∷ bs) (v ∷ x) u h c
+        behind w i u c start goes =
+            let end : slice_get zs goes.reach.to ≡ Some (add u (goes.reach.leads.by)) =
+            goes.reach.leads.end
+            ∙ ap (λ s. Some (add s (goes.reach.leads.by))) (at_same (slice_get zs w) (goes.reach.leads.from) u (goes.reach.leads.start) start) in
+            let rest = (least.cells goes.reach.to (add u (goes.reach.leads.by)) (Some goes.rest) end goes.reach.cell).0 in
+            ((goes.reach.leads.by) ∷ rest.0, taken w i u c rest.0 start goes rest.1)
+
+        attained : (w : ℕ) (c : ℤ) → slice_get layer w ≡ Some (Some c) → (i : ℕ) × Goes zs menu next w i c
+        attained w c cell = by known.0.0 known.0.1
+          where
+            from : (u : Vector) × (slice_get zs w ≡ Some u)
+            from = read_at zs w (omega (arith, row.size, slice_get_within layer w (Some c) cell))
+
+            known : ((h : Bricks) × Costs (b ∷ bs) (v ∷ x) from.0 h c) × ((h : Bricks) (e : ℤ) → Costs (b ∷ bs) (v ∷ x) from.0 h e → c ≤ℤ e)
+            known = row.cells w from.0 (Some c) from.1 cell
+
+            by : (h : Bricks) → Costs (b ∷ bs) (v ∷ x) from.0 h c → (i : ℕ) × Goes zs menu next w i c
+            by [] wc = absurd (omega (arith, wc.walk.size))
+            by (d ∷ h) wc =
+                let g = begun w from.0 d h c from.1 wc in
+                let walk = behind w g.i from.0 (g.goes).0 from.1 (g.goes).1 in
+                let low : c ≤ℤ (g.goes).0 = known.1 walk.0 (g.goes).0 walk.1 in
+                let same : (g.goes).0 ≡ c = omega (arith, ints, low, (g.goes).2) in
+                (g.i, subst (Goes zs menu next w g.i) same (g.goes).1)
+
+        most : (w i : ℕ) (c : ℤ) → Goes zs menu next w i c → IsAtMost layer w c
+        most w i c goes = by cell.0 cell.1
+          where
+            leads : Leads zs goes.move.place w goes.reach.to
+            leads = goes.reach.leads
+
+            cell : (o : Option ℤ) × (slice_get layer w ≡ Some o)
+            cell = read_at layer w (omega (arith, row.size, slice_get_within zs w leads.from leads.start))
+
+            walk : (h : Bricks) × Costs (b ∷ bs) (v ∷ x) leads.from h c
+            walk = behind w i leads.from c leads.start goes
+
+            by : (o : Option ℤ) → slice_get layer w ≡ Some o → IsAtMost layer w c
+            by None e = absurd (row.cells w leads.from None leads.start e walk.0 c walk.1)
+            by (Some a) e = (a, e, (row.cells w leads.from (Some a) leads.start e).1 walk.0 c walk.1)
+
     module _ (layer : Layer) (over : IsLayerOver zs menu next layer) where
       -- the layer over one of least costs holds least costs
       pub row_over : LeastRow (b ∷ bs) (v ∷ x) layer

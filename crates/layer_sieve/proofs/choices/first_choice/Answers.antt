@@ -31,9 +31,11 @@ returns-then-m-reached c =
     (c.requires.small c.in-Some.reached.to c.in-Some.reached.rest c.in-Some.ensures.1) in
     let none : (i : ℕ) → i < c.loop-m.m-index → Goes (vectors c.args.targets.now) c.args.menu.now c.args.next.now c.args.from i c.args.cost → ⊥ =
     (λ i low. simp to_z-of_z at (c.loop-m.invariant i low)) in
+    simp to_z-of_z (
     choice_here (vectors c.args.targets.now) c.requires.rising c.args.menu.now c.args.next.now c.args.from c.args.cost c.loop-m.m-index m c.in-Some.reached
     (slice_get-get_or c.args.menu.now c.loop-m.m-index _ c.loop-m-test.true) c.in-Some.ensures.0 c.in-Some.ensures.1
     (sym (simp to_z-of_z at (ap (to_z w128) c.if-m-reached.true))) none
+    )
 
 pub loop-m-preserved-in_default : goal.loop-m-preserved-in_default
 loop-m-preserved-in_default c =
