@@ -6,7 +6,7 @@ use Rattle.fold_theory.specs.Programs.{Program, IsProgram}
 use Rattle.run_theory.specs.Certificates.{Certificate}
 use Rattle.run_theory.specs.Checker.{Accept, first_broken, claimed_verdict}
 use Rattle.fold_theory.specs.Verdicts.{Holds}
-use Rattle.fold_laws.proofs.BrickMisses.{accepted_holds}
+use Rattle.yes_laws.proofs.BrickMisses.{accepted_holds}
 use Rattle.cert_checker.specs.declared.answer.Check.{Check}
 use Rattle.cert_checker.specs.declared.answer.Check.TheVariants.{Yes, No}
 use Rattle.cert_checker.specs.Answers.{checked, IsTrueYes}

@@ -16,7 +16,7 @@ use Rattle.run_theory.specs.BrickRuns.{BrickMove}
 use Rattle.run_theory.specs.Certificates.{Certificate, FoldPart}
 use Rattle.run_theory.specs.Outcomes.{RunRecord, IsRecorded, AllSettle, CountedPart, ClosedPart, Outcome, IsOutcome, IsCertificate, IsFoldPart, matrix_of_bricks, point_matrix}
 use Rattle.run_theory.specs.Checker.{fold_rules, first_failing, Accept}
-use Rattle.yes_laws.proofs.Accepted.{bricks_of}
+use Rattle.piece_laws.proofs.Starts.{bricks_of}
 use Rattle.certificate_laws.proofs.Passing.{nat_lt_of}
 use Rattle.certificate_laws.proofs.StuckBricks.{stuck_certificate, first_stuck_accepted}
 use Rattle.outcome_laws.proofs.OneOutcome.{bases_unique, brick_sums_unique}

@@ -20,9 +20,8 @@ use Rattle.lattice_laws.proofs.Sums.{add_zeros, zeros_add, sub_sub}
 use Rattle.lattice_laws.specs.VectorLists.{sum_of, AreSized}
 use Rattle.lattice_laws.proofs.Multiples.{scale_once}
 use Rattle.lattice_laws.proofs.VectorLists.{length-sum}
-use Rattle.yes_laws.proofs.PointParts.{forth}
-use Rattle.yes_laws.proofs.Points.{forth-sized, rests_are, image-forth}
-use Rattle.yes_laws.proofs.Least.{walk_end_is}
+use Rattle.piece_laws.specs.Points.{forth}
+use Rattle.piece_laws.proofs.Points.{forth-sized, rests_are, image-forth, walk_end_is}
 use Rattle.certificate_laws.proofs.BrickRuns.{one_step, one_length}
 use Rattle.certificate_laws.proofs.BrickSums.{IsStill}
 use Rattle.certificate_laws.proofs.Potentials.{IsLeastWalk, LeastRows, some_rows, first_row, has_cell, cell_at}

@@ -11,7 +11,7 @@ use Rattle.lattice_laws.proofs.Conformal.{sub-opposite}
 use Rattle.fold_theory.specs.Programs.{Program, Brick, IsBrick, IsWithin, is_within, IsLength, brick_residual}
 use Rattle.run_theory.specs.BrickRuns.{nearest, nearest_point, BrickMove, stepped, IsSignedPart, Improves, IsBrickRunFrom, IsBrickRun}
 use Rattle.run_theory.specs.Checker.{no_step_helps}
-use Rattle.fold_laws.proofs.Bounds.{is_within_true}
+use Rattle.piece_laws.proofs.Bounds.{is_within_true}
 use Rattle.lattice_laws.proofs.Multiples.{scale_once}
 use Rattle.certificate_laws.proofs.Passing.{and_of, list_all_of, nat_le_of}
 

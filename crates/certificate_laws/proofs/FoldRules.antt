@@ -19,10 +19,10 @@ use Rattle.run_theory.specs.BrickSums.{AreBrickSums}
 use Rattle.run_theory.specs.Certificates.{Certificate, FoldPart, Table, listed_sums}
 use Rattle.run_theory.specs.Outcomes.{ArePotentials, row_of_sum, matrix_of_bricks, point_matrix}
 use Rattle.run_theory.specs.Checker.{point_fits, parts_fit, layers_hold, starts_at_zero, sums_are_closed, fold_rules, first_failing}
-use Rattle.fold_laws.proofs.Bounds.{is_within_of}
+use Rattle.piece_laws.proofs.Bounds.{is_within_of}
 use Rattle.lattice_laws.specs.VectorLists.{AreSized}
-use Rattle.yes_laws.proofs.Least.{points_sized, point-length}
-use Rattle.yes_laws.proofs.Accepted.{bricks_of}
+use Rattle.piece_laws.proofs.Points.{points_sized, point-length}
+use Rattle.piece_laws.proofs.Starts.{bricks_of}
 use Rattle.certificate_laws.proofs.Passing.{and_of, nat_eq_of, nat_le_of, all_zip_of, sized_of, has_shape_of, none_failing}
 use Rattle.cover_laws.proofs.SlackBases.{slack_basis_complete}
 use Rattle.certificate_laws.proofs.StuckBricks.{basis_sized}

@@ -20,7 +20,7 @@ use Rattle.run_theory.specs.Certificates.{Certificate, FoldPart, Table}
 use Rattle.run_theory.specs.Outcomes.{Outcome, IsOutcome, IsCertificate, IsFoldPart, ArePotentials, FirstStuck}
 use Rattle.run_theory.specs.Checker.{Accept}
 use Rattle.fold_theory.proofs.KnownValues.{square, free}
-use Rattle.fold_laws.proofs.KnownValues.{one_row}
+use Rattle.piece_laws.proofs.KnownPrograms.{one_row}
 use Rattle.certificate_laws.proofs.Accepted.{stuck_is_accepted, outcome_is_accepted}
 use Rattle.outcome_laws.proofs.KnownValues.{convex_at_four, small_program, small_is_a_program, bases, they_are_bases, zero_vector, they_are_sums, sums, only_sum, point, small_outcome, it_is_optimal}
 use Rattle.outcome_laws.proofs.KnownBases.{row, pair, basis, it_is_slack}

@@ -14,7 +14,7 @@ use Rattle.run_theory.specs.Outcomes.{AllSettle}
 use Rattle.lattice_laws.proofs.Sums.{add_zeros}
 use Rattle.lattice_laws.proofs.Multiples.{rows-scale, scale-zeros, length-scale}
 use Rattle.lattice_laws.specs.VectorLists.{AreSized}
-use Rattle.yes_laws.proofs.Least.{points_sized}
+use Rattle.piece_laws.proofs.Points.{points_sized}
 use Rattle.certificate_laws.proofs.BrickRuns.{run_ends}
 use Rattle.certificate_laws.proofs.BrickSums.{IsStill}
 

@@ -13,7 +13,7 @@ use Rattle.fold_theory.specs.Programs.{Program, Brick, Bricks, IsWithin, is_with
 use Rattle.run_theory.specs.Steps.{partial_sums}
 use Rattle.run_theory.specs.Walks.{brick_change, end_cost, WalkCosts}
 use Rattle.run_theory.specs.Checker.{at_most, plus, potential_of, layer_holds, layers_hold}
-use Rattle.fold_laws.proofs.Bounds.{is_within_true}
+use Rattle.piece_laws.proofs.Bounds.{is_within_true}
 use Rattle.lattice_laws.proofs.Multiples.{scale_once}
 use Rattle.certificate_laws.proofs.Passing.{and_of, list_all_of, all_zip_of}
 use Rattle.certificate_laws.proofs.BrickRuns.{one_step}

@@ -15,9 +15,9 @@ use Rattle.run_theory.specs.Certificates.{Certificate}
 use Rattle.run_theory.specs.Outcomes.{FirstStuck, matrix_of_bricks, point_matrix}
 use Rattle.run_theory.specs.BrickRuns.{BrickMove}
 use Rattle.run_theory.specs.Checker.{brick_rules, first_failing, Accept}
-use Rattle.fold_laws.proofs.Bounds.{is_within_of, length-within}
+use Rattle.piece_laws.proofs.Bounds.{is_within_of, length-within}
 use Rattle.lattice_laws.specs.VectorLists.{AreSized}
-use Rattle.yes_laws.proofs.Accepted.{bricks_of}
+use Rattle.piece_laws.proofs.Starts.{bricks_of}
 use Rattle.certificate_laws.proofs.Passing.{and_of, nat_lt_of, has_shape_of, none_failing}
 use Rattle.certificate_laws.proofs.BrickRuns.{IsRunEnd, run_ends, none_helps}
 use Rattle.cover_laws.proofs.SlackBases.{slack_basis_complete}

@@ -10,7 +10,7 @@ use Rattle.lattice_laws.proofs.Signs.{abs_split}
 use Rattle.fold_theory.specs.Programs.{Bricks}
 use Rattle.lattice_laws.proofs.Multiples.{between_times}
 use Rattle.lattice_laws.specs.VectorLists.{AreSized}
-use Rattle.yes_laws.proofs.PointParts.{back}
+use Rattle.piece_laws.specs.Points.{back}
 use Rattle.lattice_theory.specs.Lists.{all_zip}
 
 -- ---- numbers

@@ -1,11 +1,10 @@
 -- A run of a phase makes few steps: each gains at least a part of what is left to gain.
-use Rattle.std.proofs.Common.{◌≡◌, ℕ, zero, suc, ◌+◌, ◌*◌, ◌<◌, ◌≤◌, ℤ, pos, ◌-ℤ◌, ◌≤ℤ◌, ◌<ℤ◌, unsigned_abs, List, [], ◌∷◌, length, refl, ap, arith, Contains, IsTrue}
+use Rattle.std.proofs.Common.{◌≡◌, ℕ, zero, suc, ◌+◌, ◌*◌, ◌<◌, ◌≤◌, ℤ, pos, ◌-ℤ◌, ◌≤ℤ◌, ◌<ℤ◌, unsigned_abs, List, [], ◌∷◌, length, ap, arith, IsTrue}
 use Rattle.std.proofs.lemmas.Int.{ints}
 use Rattle.std.specs.Ordering.{int_cmp, ordering_then, is_le, MatchOrdering}
 use Rattle.std.specs.declared.cmp.Ordering.{Ordering}
 use Rattle.std.specs.declared.cmp.Ordering.TheVariants.{Less, Equal, Greater}
 use Rattle.std.specs.Cmp.{int_ranks}
-use Rattle.std.proofs.lemmas.List.Elements.{recursion_from_All}
 use Rattle.fold_theory.specs.declared.Phase.{Phase}
 use Rattle.lattice_theory.specs.Vectors.{Vector}
 use Rattle.lattice_theory.specs.SignedSums.{Sum, vectors}
@@ -14,15 +13,12 @@ use Rattle.run_theory.specs.Links.{Bases, AreBases, generators, fold_complexity}
 use Rattle.run_theory.specs.BrickSums.{AreBrickSums}
 use Rattle.run_theory.specs.Steps.{Move, moved, Augments, gain, IsBest, IsRun}
 use Rattle.run_theory.specs.Outcomes.{bound_number}
-use Rattle.yes_laws.proofs.Accepted.{bricks_of}
-use Rattle.yes_laws.proofs.Least.{points_sized}
 use Rattle.run_theory.specs.Starts.{IsStart}
-use Rattle.run_laws.proofs.Frames.{frame_of, sums_quiet}
-use Rattle.run_laws.proofs.PhaseRuns.{run_best, moved_meets, all_quiet}
+use Rattle.piece_laws.proofs.Frames.{frame_of, sums_quiet}
+use Rattle.run_laws.proofs.PhaseRuns.{run_best, step_start}
 use Rattle.run_theory.specs.Digits.{binary_digits}
 use Rattle.count_laws.proofs.Counting.{count}
 use Rattle.count_laws.proofs.PowersOfTwo.{less_than_power}
-use Rattle.count_laws.proofs.Gains.{IsAt}
 use Rattle.count_laws.proofs.LeftToGain.{left_to_gain}
 
 -- ---- the rule's step
@@ -74,21 +70,10 @@ module _ (p : Program) (phase : Phase) (b : Bases) (sums : List Sum) (program : 
   factor = bound_number p zs
 
   -- a step leads to a point where the phase may go on
-  step_start : (x : Bricks) (m : Move) → IsStart p phase x → IsBest p phase zs x m →
+  next_start : (x : Bricks) (m : Move) → IsStart p phase x → IsBest p phase zs x m →
       IsStart p phase (moved x m.k m.bricks)
-  step_start x m start best =
-      let step = best.augments.candidate in
-      let bricks = bricks_of p program in
-      let listed = recursion_from_All (Contains zs) m.bricks step.walk.moves in
-      let quiet = all_quiet p phase zs program (sums_quiet p phase b sums bases are) m.bricks listed in
-      record {
-        within = step.walk.within;
-        brick_rows =
-            moved_meets p p.brick.cols m.k p.bricks x m.bricks bricks
-            (points_sized p.brick.cols (length p.brick.rows) p.bricks x bricks start.within) step.walk.size quiet
-            start.brick_rows;
-        end = step.end;
-      }
+  next_start x m start best =
+      step_start p phase zs program (sums_quiet p phase b sums bases are) x m.k m.bricks start best.augments.candidate
 
   -- a step gains its part of what is left
   step_part : (x last : Bricks) (m : Move) (moves : List Move) → IsStart p phase x →
@@ -99,16 +84,9 @@ module _ (p : Program) (phase : Phase) (b : Bases) (sums : List Sum) (program : 
       let y = moved x m.k m.bricks in
       let end = (run_best p phase b sums (m ∷ moves) x last program bases are start run).start in
       let most = unsigned_abs (gain p phase x m.k m.bricks) in
-      let is : IsAt p phase p.brick.cols x = record {
-        right = program.right_size;
-        relations = program.relations_size;
-        bricks = bricks_of p program;
-        placed = record { within = start.within; meets = start.brick_rows; ends = start.end };
-      } in
       let all =
-      left_to_gain p phase p.brick.cols x is (generators p b.brick) zs (fold_complexity p phase b)
-      (frame_of p phase b sums bases are) refl most (greatest_gain p phase zs x m run.0) last
-      (record { within = end.within; meets = end.brick_rows; ends = end.end }) in
+      left_to_gain p phase program x start (generators p b.brick) zs (fold_complexity p phase b)
+      (frame_of p phase b sums bases are) most (greatest_gain p phase zs x m run.0) last end in
       let after = run_gains p phase zs moves y last run.1 in
       one_step factor (unsigned_abs (phase_cost p phase x -ℤ phase_cost p phase last)) most
       (unsigned_abs (phase_cost p phase y -ℤ phase_cost p phase last))
@@ -129,7 +107,7 @@ module _ (p : Program) (phase : Phase) (b : Bases) (sums : List Sum) (program : 
   run_part [] x last start run j low = absurd (omega (arith, low))
   run_part (m ∷ moves) x last start run zero low = step_part x last m moves start run
   run_part (m ∷ moves) x last start run (suc j) low =
-      run_part moves (moved x m.k m.bricks) last (step_start x m start run.0) run.1 j (omega (arith, low))
+      run_part moves (moved x m.k m.bricks) last (next_start x m start run.0) run.1 j (omega (arith, low))
 
 pub few_steps : (p : Program) (phase : Phase) (b : Bases) (sums : List Sum) (x last : Bricks) (moves : List Move) →
     IsProgram p → AreBases p b → AreBrickSums p phase b sums → IsStart p phase x →

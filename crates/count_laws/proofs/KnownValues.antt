@@ -1,23 +1,23 @@
 -- The law at values worked by hand: two bricks with the row v1 + v2 = 4, bounds 0 and 4 and cost v1 * v1, and one
 -- linking row, by which the first columns are to add up to 3.
-use Rattle.std.specs.Prelude.{◌≡◌, ◌*◌, ◌≤◌, ◌-ℤ◌, ℤ, pos, neg_ℤ, ◌≤ℤ◌, unsigned_abs, map, List, [], ◌∷◌, length, refl}
+use Rattle.std.specs.Prelude.{◌≡◌, ◌*◌, ◌≤◌, ◌-ℤ◌, pos, neg_ℤ, unsigned_abs, map, List, [], ◌∷◌, length, refl}
 use Rattle.std.proofs.Common.{arith, ap}
 use Rattle.std.proofs.lemmas.Int.{ints}
-use Rattle.std.proofs.lemmas.List.Elements.{All-from_recursion}
 use Rattle.fold_theory.specs.declared.Phase.TheVariants.{Closed}
 use Rattle.lattice_theory.specs.Vectors.{Vector}
 use Rattle.lattice_theory.specs.SignedSums.{Sum, vectors}
 use Rattle.lattice_theory.proofs.KnownValues.{minus}
-use Rattle.fold_theory.specs.Programs.{Bricks, IsBrick, IsProgram, IsWithin, phase_cost}
+use Rattle.fold_theory.specs.Programs.{Bricks, phase_cost}
 use Rattle.run_theory.specs.Links.{Bases, AreBases}
 use Rattle.run_theory.specs.BrickSums.{AreBrickSums}
 use Rattle.run_theory.specs.Steps.{Move, IsRun}
 use Rattle.run_theory.specs.Outcomes.{bound_number}
-use Rattle.fold_theory.proofs.KnownValues.{brick_with, the_program, point_of, best_point}
-use Rattle.fold_laws.proofs.KnownValues.{one_brick, one_row}
+use Rattle.fold_theory.proofs.KnownValues.{the_program, point_of, best_point}
+use Rattle.piece_laws.proofs.KnownPrograms.{is_a_program, from_zero_to_four}
 use Rattle.run_theory.specs.Starts.{IsStart}
 use Rattle.run_theory.specs.Digits.{binary_digits}
 use Rattle.count_laws.proofs.FewSteps.{few_steps}
+use Rattle.fold_theory.specs.declared.Relation.TheVariants.{Equal}
 use Rattle.run_laws.proofs.SmallPrograms as small
 
 -- ---- binary digits
@@ -55,25 +55,13 @@ the_start = point_of (pos 0) (pos 4) (pos 3) (pos 1)
 pub whole_gain : unsigned_abs (phase_cost the_program Closed the_start -ℤ phase_cost the_program Closed best_point) ≡ 4
 whole_gain = refl
 
-it_is_a_program : IsProgram the_program
-it_is_a_program = record {
-  link_shape = one_row (pos 1 ∷ pos 0 ∷ []) refl;
-  brick_shape = one_row (pos 1 ∷ pos 1 ∷ []) refl;
-  right_size = refl;
-  relations_size = refl;
-  each_brick = All-from_recursion (IsBrick 2 1) the_program.bricks (one_brick 4, (one_brick 4, tt));
-}
-
-from_zero_to_four : (a b : ℤ) → pos 0 ≤ℤ a → a ≤ℤ pos 4 → pos 0 ≤ℤ b → b ≤ℤ pos 4 → IsWithin (brick_with 4) (a ∷ b ∷ [])
-from_zero_to_four a b low high left right = ((low, (left, tt)), (high, (right, tt)))
-
 it_is_a_start : IsStart the_program Closed the_start
 it_is_a_start = record {
   within = (
-    from_zero_to_four (pos 0) (pos 4) (omega (arith, ints)) (omega (arith, ints)) (omega (arith, ints))
+    from_zero_to_four 4 (pos 0) (pos 4) (omega (arith, ints)) (omega (arith, ints)) (omega (arith, ints))
         (omega (arith, ints)),
     (
-      from_zero_to_four (pos 3) (pos 1) (omega (arith, ints)) (omega (arith, ints)) (omega (arith, ints))
+      from_zero_to_four 4 (pos 3) (pos 1) (omega (arith, ints)) (omega (arith, ints)) (omega (arith, ints))
           (omega (arith, ints)),
       tt,
     ),
@@ -91,7 +79,7 @@ at_most_sixty b sums moves same bases are run =
     ap (λ zs. bound_number the_program zs * binary_digits 4) same in
     omega (
       arith,
-      few_steps the_program Closed b sums the_start best_point moves it_is_a_program bases are it_is_a_start run,
+      few_steps the_program Closed b sums the_start best_point moves (is_a_program Equal 3 4) bases are it_is_a_start run,
       whole,
     )
 

@@ -11,7 +11,7 @@ use Rattle.lattice_laws.proofs.Signs.{abs_split}
 use Rattle.lattice_laws.proofs.Conformal.{norm1-cons}
 use Rattle.fold_theory.specs.Programs.{Brick, Bricks, AreWithin}
 use Rattle.lattice_laws.specs.VectorLists.{weight}
-use Rattle.yes_laws.proofs.Points.{way}
+use Rattle.piece_laws.specs.Points.{way}
 use Rattle.count_laws.proofs.Clipped.{times}
 
 -- the widths of the bounds

@@ -13,7 +13,7 @@ use Rattle.run_theory.specs.Steps.{moved}
 use Rattle.lattice_laws.proofs.Sums.{add_zeros}
 use Rattle.lattice_laws.proofs.Multiples.{scale_zero, scale-zeros, length-scale, rows-scale, norm-scale, scale_once, scale-below, scale-add}
 use Rattle.lattice_laws.specs.VectorLists.{AreSized, sum_of, weight}
-use Rattle.yes_laws.proofs.PointParts.{AreParts, forth, back}
+use Rattle.piece_laws.specs.Points.{forth, back, ArePartsOf}
 use Rattle.count_laws.proofs.Clipped.{times}
 
 -- ---- vectors
@@ -131,7 +131,7 @@ along_back a (u ∷ x) [] = refl
 along_back a (u ∷ x) (d ∷ h) = λ i. vector_back a u d i ∷ along_back a x h i
 
 pub along_parts : (t a : ℕ) (x h : Bricks) → AreSized t x → AreSized t h → length h ≡ length x →
-    AreParts h (along x h a) (along x h (suc (suc a)))
+    ArePartsOf h (along x h a) (along x h (suc (suc a)))
 along_parts t a [] [] sx sh size = tt
 along_parts t a [] (d ∷ h) sx sh size = absurd (omega arith)
 along_parts t a (u ∷ x) [] sx sh size = absurd (omega arith)

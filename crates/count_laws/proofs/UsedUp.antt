@@ -16,8 +16,8 @@ use Rattle.lattice_laws.proofs.Sums.{sub_swap, zeros_add}
 use Rattle.lattice_laws.specs.VectorLists.{sum_of, weight, AreSized}
 use Rattle.lattice_laws.proofs.Multiples.{scale_once}
 use Rattle.lattice_laws.proofs.VectorLists.{length-sum}
-use Rattle.yes_laws.proofs.PointParts.{back}
-use Rattle.yes_laws.proofs.Least.{walk_end_is}
+use Rattle.piece_laws.specs.Points.{back}
+use Rattle.piece_laws.proofs.Points.{walk_end_is}
 use Rattle.count_laws.proofs.Clipped.{IsNarrow, clipped, clipped_no_more, clipped_less, times, all_clipped, all_no_more, all_less, all_below, all_below_test}
 use Rattle.count_laws.proofs.Times.{times_once, weight-times}
 use Rattle.lattice_laws.proofs.Members.{at_most_greatest}

@@ -1,23 +1,18 @@
--- Where a brick's run ends, no other vector within the bounds of the brick misses its rows by less.
-use Rattle.std.proofs.Common.{◌≡◌, ℕ, zero, suc, ◌<◌, ◌≤◌, ℤ, pos, ◌≤ℤ◌, ◌<ℤ◌, int_lt, Bool, true, false, cond, List, [], ◌∷◌, length, map, refl, ap, arith, sym, ◌∙◌, Contains, inl, inr, subst}
+-- Where a brick's run ends, no step by a signed first part helps.
+use Rattle.std.proofs.Common.{◌≡◌, ◌<◌, ◌≤◌, ℤ, pos, ◌≤ℤ◌, ◌<ℤ◌, int_lt, Bool, true, false, cond, List, [], ◌∷◌, length, map, refl, ap, arith, sym, Contains, inl, inr, subst}
 use Rattle.std.proofs.lemmas.Int.{ints}
 use Rattle.std.proofs.lemmas.Bool.{cases_lt}
 use Rattle.std.specs.List.{AllZip}
-use Rattle.lattice_theory.specs.Vectors.{Vector, is_zero, norm1, add, sub, opposite}
-use Rattle.lattice_theory.specs.Lattices.{IsSlackBasis, first_parts}
-use Rattle.lattice_laws.proofs.Tests.{true_or_false}
-use Rattle.lattice_laws.proofs.Conformal.{length_below, norm_split, norm_some, opposite-opposite}
+use Rattle.lattice_theory.specs.Vectors.{Vector, add, opposite}
+use Rattle.lattice_theory.specs.Lattices.{first_parts}
+use Rattle.lattice_laws.proofs.Conformal.{opposite-opposite}
 use Rattle.lattice_laws.proofs.SlackBases.{IsSigned}
 use Rattle.fold_theory.specs.Programs.{Program, Brick, IsWithin, brick_residual}
 use Rattle.run_theory.specs.BrickRuns.{nearest, nearest_point, BrickMove, stepped, IsSignedPart, Improves, IsBrickRunFrom, IsBrickRun}
-use Rattle.lattice_laws.proofs.Sums.{length-sub, sub_swap, same_vector}
-use Rattle.fold_laws.proofs.Bounds.{length-within, within_parts}
-use Rattle.fold_laws.proofs.Residuals.{brick_residual_parts}
-use Rattle.cover_laws.proofs.Parts.{Part}
 use Rattle.lattice_laws.proofs.Multiples.{scale_once}
-use Rattle.run_laws.proofs.SlackParts.{slack_part}
 use Rattle.lattice_theory.specs.Lists.{zip_with}
 use Rattle.lattice_laws.proofs.Members.{mapped}
+use Rattle.piece_laws.proofs.Bricks.{IsNoHelp}
 
 -- ---- the start and the end of a run
 
@@ -72,67 +67,22 @@ turned_member : (parts : List Vector) (v : Vector) → Contains parts (opposite 
 turned_member parts v listed =
     subst (Contains (map opposite parts)) (opposite-opposite v) (mapped opposite parts (opposite v) listed)
 
-module _ (p : Program) (b : Brick) (basis : List Vector) (x : Vector) (slack : IsSlackBasis p.brick basis)
-    (columns : length b.lower ≡ p.brick.cols) (right : length b.right ≡ length p.brick.rows)
-    (end : IsEnd p basis b x) where
-  size : (y : Vector) → IsWithin b y → length y ≡ p.brick.cols
-  size y inside = length-within b y inside ∙ columns
-
-  wide : (y : Vector) → IsWithin b y → length (sub y x) ≡ p.brick.cols
-  wide y inside = length-sub y x p.brick.cols (size y inside) (size x end.within)
-
-  signed_part : (v : Vector) → IsSigned (first_parts p.brick.cols basis) v → IsSignedPart p basis v
-  signed_part v (inl c) = inl c
-  signed_part v (inr c) = inr (turned_member (first_parts p.brick.cols basis) v c)
-
-  -- a step of length 1 by a part does not help
-  no_help : (d : Vector) (q : Part p.brick basis d) → IsWithin b (add x q.vector) →
-      brick_residual p b x ≤ brick_residual p b (add x q.vector)
-  no_help d q inside = elim (cases_lt (brick_residual p b (add x q.vector)) (brick_residual p b x)) [
-    | inr more ↦ more
-    | inl less ↦
-        let once : add x q.vector ≡ stepped x (record { k = 0; vector = q.vector }) =
-        sym (ap (add x) (scale_once q.vector)) in
-        absurd (end.none (record { k = 0; vector = q.vector }) (record {
-          part = signed_part q.vector q.listed;
-          length = omega arith;
-          within = subst (IsWithin b) once inside;
-          lowers = subst (λ y. brick_residual p b y < brick_residual p b x) once less;
-        }))
-  ]
-
-  -- y goes to y - v, which misses the rows by no more
-  step_back : (y : Vector) (inside : IsWithin b y) (q : Part p.brick basis (sub y x)) →
-      IsWithin b (sub y q.vector) × (brick_residual p b (sub y q.vector) ≤ brick_residual p b y)
-  step_back y inside q =
-      let ends = within_parts b x y q.vector end.within inside q.below in
-      let same : length y ≡ length x = size y inside ∙ sym (size x end.within) in
-      let long : length q.vector ≡ length x =
-      length_below q.vector (sub y x) q.below ∙ wide y inside ∙ sym (size x end.within) in
-      let both = brick_residual_parts p b x y q.vector right same long q.image in
-      (ends.1, omega (arith, both, no_help (sub y x) q ends.0))
-
-  -- by the distance from x
-  reached : (bound : ℕ) (y : Vector) → norm1 (sub y x) < bound → IsWithin b y →
-      brick_residual p b x ≤ brick_residual p b y
-  reached zero y near inside = absurd (omega arith)
-  reached (suc bound) y near inside = elim (true_or_false (is_zero (sub y x))) [
-    | inl e ↦
-        let same : x ≡ y = same_vector x y (size x end.within ∙ sym (size y inside)) e in
-        omega (arith, ap (brick_residual p b) same)
-    | inr e ↦
-        let q = slack_part p.brick basis slack (sub y x) (wide y inside) e in
-        let back = step_back y inside q in
-        let nearer : norm1 (sub (sub y q.vector) x) < norm1 (sub y x) =
-        omega (
-          arith,
-          ap norm1 (sub_swap y q.vector x),
-          norm_split q.vector (sub y x) q.below,
-          norm_some q.vector q.nonzero,
-        ) in
-        omega (arith, back.1, reached bound (sub y q.vector) (omega (arith, nearer, near)) back.0)
-  ]
-
-  -- no vector within the bounds misses the rows by less than x
-  pub least_at_end : (y : Vector) → IsWithin b y → brick_residual p b x ≤ brick_residual p b y
-  least_at_end y inside = reached (suc (norm1 (sub y x))) y (omega arith) inside
+-- where no step lowers the residual, none by a signed first part helps
+pub run_no_help : (p : Program) (b : Brick) (basis : List Vector) (x : Vector) → IsEnd p basis b x → (v : Vector) →
+    IsSigned (first_parts p.brick.cols basis) v → IsNoHelp p b x (add x v)
+run_no_help p b basis x end v signed inside =
+    elim (cases_lt (brick_residual p b (add x v)) (brick_residual p b x)) [
+      | inr more ↦ more
+      | inl less ↦
+          let once : add x v ≡ stepped x (record { k = 0; vector = v }) = sym (ap (add x) (scale_once v)) in
+          absurd (end.none (record { k = 0; vector = v }) (record {
+            part = by signed;
+            length = omega arith;
+            within = subst (IsWithin b) once inside;
+            lowers = subst (λ y. brick_residual p b y < brick_residual p b x) once less;
+          }))
+    ]
+  where
+    by : IsSigned (first_parts p.brick.cols basis) v → IsSignedPart p basis v
+    by (inl c) = inl c
+    by (inr c) = inr (turned_member (first_parts p.brick.cols basis) v c)

@@ -1,25 +1,22 @@
 -- Where a phase starts, at points of a program of two bricks with the row v1 + v2 = 4, bounds 0 and 4, and one linking
 -- row, by which the first columns are to add up to 3.
-use Rattle.std.specs.Prelude.{ℤ, pos, ◌≤ℤ◌, [], ◌∷◌, refl}
+use Rattle.std.specs.Prelude.{pos, [], ◌∷◌, refl}
 use Rattle.std.proofs.Common.{arith}
 use Rattle.std.proofs.lemmas.Int.{ints}
 use Rattle.fold_theory.specs.declared.Phase.TheVariants.{Closed, Counted}
 use Rattle.lattice_theory.proofs.KnownValues.{minus}
-use Rattle.fold_theory.specs.Programs.{IsWithin}
-use Rattle.fold_theory.proofs.KnownValues.{brick_with, the_program, point_of, best_point}
+use Rattle.fold_theory.proofs.KnownValues.{the_program, point_of, best_point}
 use Rattle.run_theory.specs.Starts.{IsStart}
-
-from_zero_to_four : (a b : ℤ) → pos 0 ≤ℤ a → a ≤ℤ pos 4 → pos 0 ≤ℤ b → b ≤ℤ pos 4 → IsWithin (brick_with 4) (a ∷ b ∷ [])
-from_zero_to_four a b low high left right = ((low, (left, tt)), (high, (right, tt)))
+use Rattle.piece_laws.proofs.KnownPrograms.{from_zero_to_four}
 
 -- (1 3), (2 2)
 pub best_point_is_a_start : IsStart the_program Closed best_point
 best_point_is_a_start = record {
   within = (
-    from_zero_to_four (pos 1) (pos 3) (omega (arith, ints)) (omega (arith, ints)) (omega (arith, ints))
+    from_zero_to_four 4 (pos 1) (pos 3) (omega (arith, ints)) (omega (arith, ints)) (omega (arith, ints))
         (omega (arith, ints)),
     (
-      from_zero_to_four (pos 2) (pos 2) (omega (arith, ints)) (omega (arith, ints)) (omega (arith, ints))
+      from_zero_to_four 4 (pos 2) (pos 2) (omega (arith, ints)) (omega (arith, ints)) (omega (arith, ints))
           (omega (arith, ints)),
       tt,
     ),
@@ -35,10 +32,10 @@ missed_link_is_no_closed_start start = absurd (cc (start.end))
 pub missed_link_is_a_counted_start : IsStart the_program Counted (point_of (pos 0) (pos 4) (pos 2) (pos 2))
 missed_link_is_a_counted_start = record {
   within = (
-    from_zero_to_four (pos 0) (pos 4) (omega (arith, ints)) (omega (arith, ints)) (omega (arith, ints))
+    from_zero_to_four 4 (pos 0) (pos 4) (omega (arith, ints)) (omega (arith, ints)) (omega (arith, ints))
         (omega (arith, ints)),
     (
-      from_zero_to_four (pos 2) (pos 2) (omega (arith, ints)) (omega (arith, ints)) (omega (arith, ints))
+      from_zero_to_four 4 (pos 2) (pos 2) (omega (arith, ints)) (omega (arith, ints)) (omega (arith, ints))
           (omega (arith, ints)),
       tt,
     ),

@@ -1,6 +1,3 @@
-pub mod SlackParts
-pub mod SignedLists
-pub mod Frames
 pub mod UnitSteps
 pub mod Best
 pub mod BrickRuns

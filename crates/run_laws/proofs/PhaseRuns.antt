@@ -10,15 +10,14 @@ use Rattle.lattice_laws.proofs.Products.{rows-add}
 use Rattle.fold_theory.specs.Programs.{Program, Brick, Bricks, IsBrick, IsProgram, phase_cost}
 use Rattle.run_theory.specs.Links.{Bases, AreBases}
 use Rattle.run_theory.specs.BrickSums.{AreBrickSums}
-use Rattle.run_theory.specs.Steps.{Move, moved, NoneAugments, IsRun}
+use Rattle.run_theory.specs.Steps.{Move, moved, NoneAugments, IsRun, IsCandidate}
 use Rattle.lattice_laws.proofs.Sums.{add_zeros}
 use Rattle.lattice_laws.proofs.Multiples.{scale-zeros, length-scale, rows-scale}
 use Rattle.lattice_laws.specs.VectorLists.{AreSized}
-use Rattle.yes_laws.proofs.Accepted.{bricks_of}
-use Rattle.yes_laws.proofs.Least.{points_sized}
+use Rattle.piece_laws.proofs.Starts.{bricks_of, sized}
 use Rattle.run_theory.specs.Starts.{IsStart}
-use Rattle.run_laws.proofs.SignedLists.{IsQuiet}
-use Rattle.run_laws.proofs.Frames.{sums_quiet}
+use Rattle.piece_laws.proofs.SignedSums.{IsQuiet}
+use Rattle.piece_laws.proofs.Frames.{sums_quiet}
 use Rattle.run_laws.proofs.Best.{finished_is_best}
 
 module _ (p : Program) (t : ℕ) where
@@ -26,7 +25,7 @@ module _ (p : Program) (t : ℕ) where
   Meet bs x = AllZip (λ b v. product p.brick v ≡ b.right) bs x
 
   -- a move that changes no brick row keeps them met, however long the step is
-  pub moved_meets : (k : ℕ) (bs : List Brick) (x h : Bricks) → AllByRecursion (IsBrick t (length p.brick.rows)) bs →
+  moved_meets : (k : ℕ) (bs : List Brick) (x h : Bricks) → AllByRecursion (IsBrick t (length p.brick.rows)) bs →
       AreSized t x → length h ≡ length x → AllByRecursion (IsQuiet t p.brick.rows) h → Meet bs x →
       Meet bs (moved x k h)
   moved_meets k [] [] h is sx size quiet meets = tt
@@ -51,9 +50,20 @@ pub record IsFinished (p : Program) (phase : Phase) (zs : List Vector) (x : Bric
 
 module _ (p : Program) (phase : Phase) (zs : List Vector) (program : IsProgram p)
     (quiet : (w : Vector) → Contains zs w → IsQuiet p.brick.cols p.brick.rows w) where
-  pub all_quiet : (h : Bricks) → AllByRecursion (Contains zs) h → AllByRecursion (IsQuiet p.brick.cols p.brick.rows) h
+  all_quiet : (h : Bricks) → AllByRecursion (Contains zs) h → AllByRecursion (IsQuiet p.brick.cols p.brick.rows) h
   all_quiet [] listed = tt
   all_quiet (d ∷ h) listed = (quiet d listed.0, all_quiet h listed.1)
+
+  -- a candidate step leads to a point where the phase may go on
+  pub step_start : (x : Bricks) (k : ℕ) (h : Bricks) → IsStart p phase x → IsCandidate p phase zs x k h →
+      IsStart p phase (moved x k h)
+  step_start x k h start step = record {
+    within = step.walk.within;
+    brick_rows =
+        moved_meets p p.brick.cols k p.bricks x h (bricks_of p program) (sized p program x start.within) step.walk.size
+        (all_quiet h (recursion_from_All (Contains zs) h step.walk.moves)) start.brick_rows;
+    end = step.end;
+  }
 
   -- where a run ends
   run_finished : (moves : List Move) (x last : Bricks) → IsStart p phase x → IsRun p phase zs x moves last →
@@ -61,19 +71,8 @@ module _ (p : Program) (phase : Phase) (zs : List Vector) (program : IsProgram p
   run_finished [] x last start run =
       subst (IsFinished p phase zs) (sym run.1) (record { start = start; none = run.0 })
   run_finished (m ∷ moves) x last start run =
-      let step = run.0.augments.candidate in
-      let listed = recursion_from_All (Contains zs) m.bricks step.walk.moves in
-      let sized =
-      points_sized p.brick.cols (length p.brick.rows) p.bricks x (bricks_of p program) start.within in
       run_finished moves (moved x m.k m.bricks) last
-      (record {
-        within = step.walk.within;
-        brick_rows =
-            moved_meets p p.brick.cols m.k p.bricks x m.bricks (bricks_of p program) sized step.walk.size
-            (all_quiet m.bricks listed) start.brick_rows;
-        end = step.end;
-      })
-      run.1
+      (step_start x m.k m.bricks start run.0.augments.candidate) run.1
 
 -- the end of a run over the brick sums: such a point, and none has a lower phase cost
 pub record IsBestStart (p : Program) (phase : Phase) (x : Bricks) : Type 0 where

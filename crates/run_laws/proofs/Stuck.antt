@@ -6,8 +6,10 @@ use Rattle.lattice_theory.specs.Lattices.{IsSlackBasis}
 use Rattle.fold_theory.specs.Programs.{Program, Brick, IsProgram, brick_residual}
 use Rattle.run_theory.specs.BrickRuns.{BrickMove, IsBrickRun}
 use Rattle.fold_theory.specs.Verdicts.{Holds}
-use Rattle.fold_laws.proofs.BrickMisses.{brick_at, infeasible}
-use Rattle.run_laws.proofs.BrickRuns.{brick_run_end, least_at_end}
+use Rattle.piece_laws.proofs.Misses.{brick_at, brick_miss_holds}
+use Rattle.run_laws.proofs.BrickRuns.{brick_run_end, run_no_help}
+use Rattle.piece_laws.proofs.Bricks.{IsHeldBrick, least_residual}
+use Rattle.cover_laws.proofs.SlackBases.{slack_basis_complete}
 
 pub stuck_holds : (p : Program) (basis : List Vector) (place : ℕ) (brick : Brick) (moves : List BrickMove)
     (v : Vector) → IsProgram p → IsSlackBasis p.brick basis → slice_get p.bricks place ≡ Some brick →
@@ -16,16 +18,12 @@ pub stuck_holds : (p : Program) (basis : List Vector) (place : ℕ) (brick : Bri
 stuck_holds p basis place brick moves v program slack there run above =
     let is = brick_at p place brick program there in
     let end = brick_run_end p basis brick moves v is.uncrossed run in
-    let least =
-    least_at_end p brick basis v slack (is.lower_size ∙ sym program.brick_shape.width) is.right_size end in (
-      record {
-        above = above;
-        brick = brick;
-        place = place;
-        numbered = refl;
-        there = there;
-        reached = (v, end.within, refl);
-        least = least;
-      },
-      infeasible p place brick (brick_residual p brick v) there above least,
-    )
+    let held : IsHeldBrick p brick basis v =
+    record {
+      columns = is.lower_size ∙ sym program.brick_shape.width;
+      right = is.right_size;
+      complete = slack_basis_complete p.brick basis slack;
+      within = end.within;
+      no_help = run_no_help p brick basis v end;
+    } in
+    brick_miss_holds p (place + 1) place brick v refl there end.within above (least_residual p brick basis v held)

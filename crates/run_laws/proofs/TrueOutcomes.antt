@@ -16,7 +16,7 @@ use Rattle.run_theory.specs.Links.{Bases, AreBases}
 use Rattle.run_theory.specs.BrickRuns.{BrickMove}
 use Rattle.run_theory.specs.Outcomes.{Outcome, RunRecord, AllSettle, FirstStuck, CountedPart, ClosedPart, IsOutcome, HoldsAt}
 use Rattle.lattice_laws.proofs.Sums.{same_vector}
-use Rattle.yes_laws.proofs.Accepted.{bricks_of}
+use Rattle.piece_laws.proofs.Starts.{bricks_of}
 use Rattle.run_theory.specs.Starts.{IsStart}
 use Rattle.run_laws.proofs.BrickRuns.{brick_run_end}
 use Rattle.run_laws.proofs.Stuck.{stuck_holds}

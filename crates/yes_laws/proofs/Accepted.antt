@@ -1,18 +1,16 @@
 -- A certificate that breaks no rule shows what it claims.
-use Rattle.std.proofs.Common.{◌≡◌, ℕ, ◌<◌, ◌≤◌, nat_eq, nat_lt, ℤ, pos, ◌≤ℤ◌, Bool, true, false, ◌&&◌, List, [], ◌∷◌, length, Option, Some, None, refl, arith, sym, ◌∙◌, subst}
+use Rattle.std.proofs.Common.{◌≡◌, ◌<◌, ◌≤◌, nat_eq, nat_lt, ℤ, pos, ◌≤ℤ◌, Bool, true, false, ◌&&◌, List, [], ◌∷◌, length, Option, Some, None, refl, arith, sym, ◌∙◌, ◌-ℤ◌}
 use Rattle.std.proofs.lemmas.Int.{ints}
-use Rattle.std.proofs.lemmas.Bool.Decides.{nat_tests}
 use Rattle.std.specs.List.{AllZip, AllByRecursion}
-use Rattle.std.proofs.lemmas.List.Elements.{recursion_from_All}
 use Rattle.fold_theory.specs.declared.Phase.{Phase}
 use Rattle.fold_theory.specs.declared.Phase.TheVariants.{Closed, Counted}
 use Rattle.run_theory.specs.declared.Claim.{Claim}
 use Rattle.fold_theory.specs.declared.Verdict.TheVariants.{Optimal, InfeasibleLink}
-use Rattle.lattice_theory.specs.Vectors.{Vector, norm1, sub, zeros}
+use Rattle.lattice_theory.specs.Vectors.{Vector, sub, zeros}
 use Rattle.lattice_theory.specs.Matrices.{product}
 use Rattle.lattice_theory.specs.Lattices.{is_complete_for}
 use Rattle.lattice_theory.specs.SignedSums.{vectors}
-use Rattle.lattice_laws.proofs.Tests.{and_true, int_le_true, le_true}
+use Rattle.lattice_laws.proofs.Tests.{and_true, int_le_true, le_true, lt_true, nat_eq_true}
 use Rattle.lattice_laws.proofs.Conformal.{norm_none}
 use Rattle.lattice_laws.proofs.Products.{length-rows}
 use Rattle.fold_theory.specs.Programs.{Program, Brick, Bricks, IsBrick, IsProgram, AreWithin, MeetsBrickRows, is_within, brick_residual, link_rests, link_miss, cost, phase_cost}
@@ -22,17 +20,18 @@ use Rattle.run_theory.specs.Certificates.{Certificate, FoldPart, listed_sums}
 use Rattle.run_theory.specs.Checker.{at_most, potential_of, layers_hold, starts_at_zero, sums_are_closed, point_fits, parts_fit, fold_rules, first_failing, listed_generators, listed_links, Accept, claimed_verdict}
 use Rattle.fold_theory.specs.Verdicts.{Holds}
 use Rattle.lattice_laws.proofs.Sums.{same_vector}
-use Rattle.fold_laws.proofs.Bounds.{is_within_true}
-use Rattle.fold_laws.proofs.BrickMisses.{all_pass, accepted_holds}
+use Rattle.piece_laws.proofs.Bounds.{is_within_true}
+use Rattle.yes_laws.proofs.BrickMisses.{all_pass, accepted_holds}
 use Rattle.yes_laws.proofs.Layers.{UnitWalk, walk_bound}
-use Rattle.yes_laws.proofs.ListedSums.{combined_listed}
-use Rattle.yes_laws.proofs.OnePiece.{Frame}
-use Rattle.yes_laws.proofs.Least.{IsPlaced, IsHeld, least}
-use Rattle.cover_laws.proofs.Kernels.{IsGenerator, complete_generators, gens_sized}
-use Rattle.lattice_laws.proofs.Members.{each_has}
-use Rattle.yes_laws.proofs.Generators.{written_of}
-use Rattle.yes_laws.proofs.Complexities.{complexity_some, light_part}
+use Rattle.yes_laws.proofs.ListedSums.{all_listed}
+use Rattle.piece_laws.proofs.Least.{least}
 use Rattle.lattice_theory.specs.Lists.{all_zip}
+use Rattle.run_theory.specs.Starts.{IsStart}
+use Rattle.piece_laws.specs.Points.{forth}
+use Rattle.piece_laws.specs.Pieces.{IsUnitStep}
+use Rattle.piece_laws.proofs.Starts.{bricks_of}
+use Rattle.piece_laws.proofs.Frames.{AreFrameLists, frame_of_lists}
+use Rattle.yes_laws.proofs.UnitWalks.{step_walk}
 use Rattle.run_theory.specs.declared.Claim.TheVariants as claim
 
 -- ---- what the rules say
@@ -48,12 +47,6 @@ record Rules (p : Program) (phase : Phase) (c : Certificate) (f : FoldPart) : Ty
       f.potentials.rows ≡ true
   starts : starts_at_zero p (vectors (listed_sums f)) f.potentials.rows ≡ true
   misses : elim phase [ Closed ↦ true | Counted ↦ nat_lt 0 (link_miss p (link_rests p c.point.rows)) ] ≡ true
-
-lt_true : (m n : ℕ) → nat_lt m n ≡ true → m < n
-lt_true m n h = grind (arith, nat_tests)
-
-eq_true : (m n : ℕ) → nat_eq m n ≡ true → m ≡ n
-eq_true m n h = grind (arith, nat_tests)
 
 -- where none of the rules is the first to fail, each part holds
 rules_say : (p : Program) (phase : Phase) (c : Certificate) (f : FoldPart) →
@@ -78,25 +71,14 @@ rules_say p phase c f h =
 -- ---- the frame
 
 -- the rules on lists, bound and sums give what pieces are found by
-frame_of : (p : Program) (phase : Phase) (c : Certificate) (f : FoldPart) → Rules p phase c f →
-    Frame p phase p.brick.cols (listed_generators p c) (vectors (listed_sums f)) f.bound
-frame_of p phase c f rules =
-    let t = p.brick.cols in
-    let gens = listed_generators p c in
-    let m = listed_links p c in
-    let each = complete_generators p.brick c.bricks.rows rules.bricks in
-    let sized = gens_sized p.brick c.bricks.rows rules.bricks in
-    record {
-      some = omega (arith, complexity_some phase p.relations m f.links.rows, rules.light);
-      sized = sized;
-      nonzero = each_has (IsGenerator p.brick) (λ g. 0 < norm1 g) (λ g is. is.nonzero) gens each;
-      still =
-          each_has (IsGenerator p.brick) (λ g. product p.brick g ≡ zeros (length p.brick.rows)) (λ g is. is.still) gens
-          each;
-      writes = λ d size still. written_of p.brick c.bricks.rows rules.bricks d size still;
-      light = λ w size some tight. light_part phase p.relations m f.links.rows rules.links f.bound rules.light w size some tight;
-      listed = λ count low. combined_listed t gens f.bound (listed_sums f) rules.closed sized count low;
-    }
+lists_of : (p : Program) (phase : Phase) (c : Certificate) (f : FoldPart) → Rules p phase c f →
+    AreFrameLists p phase c.bricks.rows f.links.rows (vectors (listed_sums f)) f.bound
+lists_of p phase c f rules = record {
+  bricks_complete = rules.bricks;
+  links_complete = rules.links;
+  heavy = rules.light;
+  sums = all_listed p.brick.cols (listed_generators p c) f.bound (listed_sums f) rules.closed;
+}
 
 -- ---- the point
 
@@ -119,34 +101,28 @@ module _ (p : Program) where
   meets_of (b ∷ bs) [] is h = absurd (cc)
   meets_of (b ∷ bs) (v ∷ x) is h =
       let q = and_true (residual_none b v) (all_zip residual_none bs x) h in
-      let none = eq_true (brick_residual p b v) 0 q.0 in (
+      let none = nat_eq_true (brick_residual p b v) 0 q.0 in (
         same_vector (product p.brick v) b.right (length-rows p.brick.rows v ∙ sym is.0.right_size)
             (norm_none (sub b.right (product p.brick v)) none),
         meets_of bs x is.1 q.1,
       )
 
-  -- the bricks of a program, with the columns of the brick matrix
-  pub bricks_of : IsProgram p → AllByRecursion (IsBrick p.brick.cols (length p.brick.rows)) p.bricks
-  bricks_of program =
-      subst (λ t. AllByRecursion (IsBrick t (length p.brick.rows)) p.bricks) (sym program.brick_shape.width)
-      (recursion_from_All (IsBrick p.link.cols (length p.brick.rows)) p.bricks program.each_brick)
-
-  -- by the rule on the point it is where the phase wants it
-  placed_of : (phase : Phase) (x : Bricks) → IsProgram p → point_fits p phase x ≡ true → IsPlaced p phase x
-  placed_of phase x program h =
+  -- by the rule on the point it is where the phase starts
+  start_of : (phase : Phase) (x : Bricks) → IsProgram p → point_fits p phase x ≡ true → IsStart p phase x
+  start_of phase x program h =
       let last = and_true (all_zip is_within p.bricks x && all_zip residual_none p.bricks x) (ends_test phase) h in
       let both = and_true (all_zip is_within p.bricks x) (all_zip residual_none p.bricks x) last.0 in
       record {
         within = within_of p.bricks x both.0;
-        meets = meets_of p.bricks x (bricks_of program) both.1;
-        ends = by phase last.1;
+        brick_rows = meets_of p.bricks x (bricks_of p program) both.1;
+        end = by phase last.1;
       }
     where
       ends_test : Phase → Bool
       ends_test f = elim f [ Closed ↦ nat_eq (link_miss p (link_rests p x)) 0 | Counted ↦ true ]
 
       by : (f : Phase) → ends_test f ≡ true → AllowsEnd p f x
-      by Closed k = eq_true (link_miss p (link_rests p x)) 0 k
+      by Closed k = nat_eq_true (link_miss p (link_rests p x)) 0 k
       by Counted k = tt
 
 -- ---- no walk gains
@@ -177,34 +153,38 @@ module _ (p : Program) (phase : Phase) (zs : List Vector) (rests : Vector) (x : 
 
 module _ (p : Program) (phase : Phase) (c : Certificate) (f : FoldPart) (program : IsProgram p)
     (rules : Rules p phase c f) where
-  held_of : IsHeld p phase p.brick.cols (vectors (listed_sums f)) c.point.rows
-  held_of = record {
-    right = program.right_size;
-    relations = program.relations_size;
-    bricks = bricks_of p program;
-    placed = placed_of p phase c.point.rows program rules.point;
-    no_gain =
-        no_gain p phase (vectors (listed_sums f)) (link_rests p c.point.rows) c.point.rows f.potentials.rows
-        rules.layers rules.starts;
-  }
+  -- no unit step from the point of the certificate leads to a lower phase cost
+  held : (h : Bricks) → IsUnitStep p phase (vectors (listed_sums f)) c.point.rows h →
+      phase_cost p phase c.point.rows ≤ℤ phase_cost p phase (forth c.point.rows h)
+  held h step =
+      let x = c.point.rows in
+      let zs = vectors (listed_sums f) in
+      let start = start_of p phase x program rules.point in
+      let walk = step_walk p zs x program start.within phase h step in
+      let gain =
+      no_gain p phase zs (link_rests p x) x f.potentials.rows rules.layers rules.starts h
+      (phase_cost p phase (forth x h) -ℤ phase_cost p phase x) walk in
+      omega (arith, ints, gain)
 
-  -- no point that is where the phase wants it costs less than the point of the certificate
-  shown_least : (y : Bricks) → IsPlaced p phase y → phase_cost p phase c.point.rows ≤ℤ phase_cost p phase y
-  shown_least y placed =
-      least p phase p.brick.cols (vectors (listed_sums f)) c.point.rows held_of (listed_generators p c) f.bound
-      (frame_of p phase c f rules) y placed
+  -- no point where the phase starts costs less than the point of the certificate
+  shown_least : (y : Bricks) → IsStart p phase y → phase_cost p phase c.point.rows ≤ℤ phase_cost p phase y
+  shown_least y start =
+      least p phase (vectors (listed_sums f)) c.point.rows program (start_of p phase c.point.rows program rules.point)
+      held (listed_generators p c) f.bound
+      (frame_of_lists p phase c.bricks.rows f.links.rows (vectors (listed_sums f)) f.bound (lists_of p phase c f rules)) y
+      start
 
 -- of the least cost
 optimum : (p : Program) (c : Certificate) (f : FoldPart) → IsProgram p → Rules p Closed c f →
     Holds p (Optimal (cost p c.point.rows))
 optimum p c f program rules =
     let x = c.point.rows in
-    let placed = placed_of p Closed x program rules.point in
+    let start = start_of p Closed x program rules.point in
     record {
-      reached = (x, record { within = placed.within; brick_rows = placed.meets; link_rows = placed.ends }, refl);
+      reached = (x, record { within = start.within; brick_rows = start.brick_rows; link_rows = start.end }, refl);
       least = λ y feasible.
           shown_least p Closed c f program rules y
-          (record { within = feasible.within; meets = feasible.brick_rows; ends = feasible.link_rows });
+          (record { within = feasible.within; brick_rows = feasible.brick_rows; end = feasible.link_rows });
     }
 
 -- of linking rows that cannot be met
@@ -213,7 +193,7 @@ link_miss_holds : (p : Program) (c : Certificate) (f : FoldPart) → IsProgram p
 link_miss_holds p c f program rules = (
   record {
     above = above;
-    reached = (x, placed.within, placed.meets, refl);
+    reached = (x, start.within, start.brick_rows, refl);
     least = no_less;
   },
   λ y feasible.
@@ -223,8 +203,8 @@ link_miss_holds p c f program rules = (
     x : Bricks
     x = c.point.rows
 
-    placed : IsPlaced p Counted x
-    placed = placed_of p Counted x program rules.point
+    start : IsStart p Counted x
+    start = start_of p Counted x program rules.point
 
     above : 0 < link_miss p (link_rests p x)
     above = lt_true 0 (link_miss p (link_rests p x)) rules.misses
@@ -232,7 +212,7 @@ link_miss_holds p c f program rules = (
     no_less : (y : Bricks) → AreWithin p.bricks y → MeetsBrickRows p y →
         link_miss p (link_rests p x) ≤ link_miss p (link_rests p y)
     no_less y within meets =
-        let low = shown_least p Counted c f program rules y (record { within = within; meets = meets; ends = tt }) in
+        let low = shown_least p Counted c f program rules y (record { within = within; brick_rows = meets; end = tt }) in
         omega (arith, ints, low)
 
 -- the certificate with this claim and these parts about the linking rows

@@ -1,9 +1,9 @@
 -- The law at values worked by hand: two bricks with the row v1 + v2 = 4, bounds 0 and 4 and cost v1 * v1, and one
 -- linking row on the first columns. Where these are to add up to 3 the least cost is 1 + 4; to 9 they cannot add up.
 -- Where the second columns are to add up to at most 5, the least cost is 1 + 4 too.
-use Rattle.std.specs.Prelude.{◌≡◌, ℕ, ℤ, pos, List, [], ◌∷◌, Option, Some, None, refl}
+use Rattle.std.specs.Prelude.{◌≡◌, ℤ, pos, List, [], ◌∷◌, Option, Some, None, refl}
 use Rattle.std.proofs.lemmas.List.Elements.{All-from_recursion}
-use Rattle.fold_theory.specs.declared.Relation.TheVariants.{Less}
+use Rattle.fold_theory.specs.declared.Relation.TheVariants.{Less, Equal}
 use Rattle.run_theory.specs.declared.Rule.TheVariants.{C6}
 use Rattle.fold_theory.specs.declared.Verdict.TheVariants.{Optimal, InfeasibleLink}
 use Rattle.lattice_theory.proofs.KnownValues.{minus}
@@ -13,19 +13,9 @@ use Rattle.run_theory.specs.Checker.{Accept, claimed_verdict, first_broken}
 use Rattle.fold_theory.specs.Verdicts.{Holds}
 use Rattle.fold_theory.proofs.KnownValues.{program_with, brick_with, best_point}
 use Rattle.run_theory.proofs.KnownValues.{the_bricks, the_sums, certificate_with, link_certificate}
-use Rattle.fold_laws.proofs.KnownValues.{one_brick, one_row}
+use Rattle.piece_laws.proofs.KnownPrograms.{one_brick, one_row, is_a_program}
 use Rattle.yes_laws.proofs.Accepted.{yes_holds}
 use Rattle.run_theory.specs.declared.Claim.TheVariants as claim
-
--- what the first columns are to add up to is no part of what makes it a program
-it_is_a_program : (right : ℕ) → IsProgram (program_with right 4)
-it_is_a_program right = record {
-  link_shape = one_row (pos 1 ∷ pos 0 ∷ []) refl;
-  brick_shape = one_row (pos 1 ∷ pos 1 ∷ []) refl;
-  right_size = refl;
-  relations_size = refl;
-  each_brick = All-from_recursion (IsBrick 2 1) (program_with right 4).bricks (one_brick 4, (one_brick 4, tt));
-}
 
 -- ---- the least cost
 
@@ -44,7 +34,7 @@ its_claim = refl
 
 -- all premises of the law are met, and it says that no feasible point costs less than 5
 pub it_holds : Holds the_program (Optimal (pos 5))
-it_holds = yes_holds the_program the_certificate (it_is_a_program 3) it_is_accepted
+it_holds = yes_holds the_program the_certificate (is_a_program Equal 3 4) it_is_accepted
 
 -- ---- the linking row cannot reach 9
 
@@ -60,7 +50,7 @@ link_claim = refl
 
 -- the law says that the linking row is missed by 1 at least
 pub link_holds : Holds the_wider_program (InfeasibleLink 1)
-link_holds = yes_holds the_wider_program link_certificate (it_is_a_program 9) link_is_accepted
+link_holds = yes_holds the_wider_program link_certificate (is_a_program Equal 9 4) link_is_accepted
 
 -- ---- a row that is to be at most its right side
 

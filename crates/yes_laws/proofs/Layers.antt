@@ -10,7 +10,7 @@ use Rattle.lattice_laws.proofs.Members.{contains_cases, list_all_at}
 use Rattle.fold_theory.specs.Programs.{Program, Brick, Bricks, is_within, IsWithin}
 use Rattle.run_theory.specs.Walks.{brick_change, end_cost}
 use Rattle.run_theory.specs.Checker.{at_most, plus, potential_of, layer_holds, layers_hold}
-use Rattle.fold_laws.proofs.Bounds.{is_within_of}
+use Rattle.piece_laws.proofs.Bounds.{is_within_of}
 use Rattle.lattice_theory.specs.Lists.{all_zip}
 
 -- ---- cells

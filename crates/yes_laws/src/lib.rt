@@ -3,6 +3,8 @@
 //! hold, the potentials say that no such piece lowers the cost, and the rest of the way is shorter.
 #![tactic(auto)]
 
+ghost use Rattle.std.specs.Prelude.{◌≡◌, ℕ};
+ghost use Rattle.run_theory.specs.declared.Claim.TheVariants as claim;
 ghost use Rattle.fold_theory.specs.Programs.{Program, IsProgram};
 ghost use Rattle.run_theory.specs.Certificates.{Certificate};
 ghost use Rattle.run_theory.specs.Checker.{Accept, claimed_verdict};
@@ -13,4 +15,12 @@ ghost use Rattle.fold_theory.specs.Verdicts.{Holds};
 /// such point misses them by less; or that no vector within the bounds of the brick misses its rows by less.
 pub fn a_yes_holds()
     ensures { (p : Program) (c : Certificate) → IsProgram p → Accept p c → Holds p (claimed_verdict p c) }
+{}
+
+/// Law: a certificate on one brick that breaks no rule shows what it claims: no vector within the bounds of
+/// that brick misses its rows by less than the certificate's vector does, which is by more than 0, so no point
+/// of the program is feasible. Bricks count from 1.
+pub fn a_yes_on_a_brick_holds()
+    ensures { (p : Program) (c : Certificate) (i : ℕ) →
+        IsProgram p → c.claim ≡ claim.InfeasibleBrick i → Accept p c → Holds p (claimed_verdict p c) }
 {}

@@ -1,5 +1,0 @@
-use Rattle.fold_laws.proofs.BrickMisses.{accepted_holds}
-use Rattle.fold_laws.proofs.certificates.a_yes_on_a_brick_holds.Goals as goal
-
-pub returns : goal.returns
-returns c = accepted_holds
