@@ -1,5 +1,5 @@
 -- The words at values worked by hand: two bricks whose two columns are to add up to 9 and to 4, and are at most 4.
-use Rattle.std.proofs.Common.{◌≡◌, ℕ, ℤ, pos, negsuc, true, false, List, [], ◌∷◌, refl, None}
+use Rattle.std.proofs.Common.{◌≡◌, ℕ, ℤ, pos, negsuc, false, List, [], ◌∷◌, refl, None}
 use Rattle.run_theory.specs.declared.Claim.TheVariants as claim
 use Rattle.run_theory.specs.declared.Rule.TheVariants.{C2, C7, B1, B2}
 use Rattle.fold_theory.specs.declared.Verdict.TheVariants.{InfeasibleBrick}
@@ -10,7 +10,6 @@ use Rattle.fold_theory.specs.Programs.{Program, Brick}
 use Rattle.run_theory.specs.Certificates.{Certificate}
 use Rattle.cert_checker.specs.declared.answer.Check.TheVariants.{Yes, No}
 use Rattle.cert_checker.specs.Answers.{checked, parts_fit}
-use Rattle.cert_checker.specs.Turns.{pair_reduces, pairs_reduce}
 
 abbrev pub free : Cost
 free = Quadratic (pos 0) (pos 0) (pos 0)
@@ -30,6 +29,7 @@ worked = record {
   link_right = [];
   brick = record { cols = 2; rows = (pos 1 ∷ pos 1 ∷ []) ∷ [] };
   bricks = brick_of (pos 9) ∷ brick_of (pos 4) ∷ [];
+  relations = [];
 }
 
 -- ---- the slack basis of the brick row
@@ -42,13 +42,6 @@ exchange = pos 1 ∷ negsuc 0 ∷ pos 0 ∷ []
 
 abbrev pub first : Vector
 first = pos 1 ∷ pos 0 ∷ pos 1 ∷ []
-
-pub its_pairs_reduce : pairs_reduce (second ∷ exchange ∷ first ∷ []) ≡ true
-its_pairs_reduce = refl
-
--- without the exchange the difference of the two others is left
-pub a_difference_is_left : pair_reduces (second ∷ first ∷ []) first second ≡ false
-a_difference_is_left = refl
 
 -- ---- answers
 

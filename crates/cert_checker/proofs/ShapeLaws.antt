@@ -5,7 +5,9 @@ use Rattle.std.proofs.lemmas.Bool.Decides.{nat_tests}
 use Rattle.std.proofs.lemmas.List.Elements.{recursion_from_All}
 use Rattle.lattice_theory.specs.Vectors.{Vector}
 use Rattle.lattice_theory.specs.Matrices.{Matrix, has_shape}
-use Rattle.cert_checker.proofs.ElementLaws.{nat_eq_true}
+
+pub nat_eq_true : (a b : ℕ) → nat_eq a b ≡ true → a ≡ b
+nat_eq_true a b h = grind (arith, nat_tests)
 
 pub nat_eq_same : (m n : ℕ) → m ≡ n → nat_eq m n ≡ true
 nat_eq_same m n same = grind (arith, nat_tests)

@@ -1,5 +1,5 @@
 -- Laws of the steps from a point of a brick by the first parts of listed elements.
-use Rattle.std.proofs.Common.{◌≡◌, ℕ, ◌+◌, ◌-◌, ◌<◌, ◌≤◌, ◌^◌, ℤ, pos, negsuc, ◌*ℤ◌, unsigned_abs, Bool, true, false}
+use Rattle.std.proofs.Common.{◌≡◌, ℕ, ◌+◌, ◌-◌, ◌<◌, ◌≤◌, ◌^◌, unsigned_abs, Bool, true, false}
 use Rattle.std.proofs.Common.{◌&&◌, ◌||◌, not, nat_le, nat_lt, List, length, take, drop, refl, ap, arith}
 use Rattle.std.proofs.Common.{sym, ◌∙◌, subst, All, Some, slice_get, option_map}
 use Rattle.std.specs.List.{list_all}
@@ -7,41 +7,21 @@ use Rattle.std.proofs.lemmas.Bool.Decides.{nat_tests}
 use Rattle.std.proofs.lemmas.List.{length-map}
 use Rattle.std.proofs.lemmas.List.Elements.{All-take}
 use Rattle.std.proofs.lemmas.Option.{slice_get-map}
-use Rattle.lattice_theory.specs.Vectors.{Vector, add, sub, scale}
+use Rattle.lattice_theory.specs.Vectors.{Vector, add, sub}
 use Rattle.lattice_theory.specs.Lattices.{first_parts}
 use Rattle.lattice_theory.specs.BasisLimits.{IsNarrow}
-use Rattle.lattice_laws.proofs.Conformal.{length-add}
 use Rattle.fold_theory.specs.Programs.{Program, Brick, is_within, brick_residual}
 use Rattle.fold_program.specs.Places.{OfBrick}
 use Rattle.cert_checker.specs.Steps.{is_better, is_best}
-use Rattle.cert_checker.proofs.ScanLaws.{same_row, at-All, list_all-at, list_all-end}
-use Rattle.cert_checker.proofs.ElementLaws.{scale-once, scale-back, add-back, IsNarrow-opposite}
+use Rattle.complete_lists.proofs.ScanLaws.{same_row, at-All, list_all-at, list_all-end}
 
 -- ---- a step from a point
-
-pub length-step : (x v : Vector) (t : ℤ) (n : ℕ) → length x ≡ n → length v ≡ n → length (add x (scale t v)) ≡ n
-length-step x v t n h k = length-add x (scale t v) n h (length-map v (λ a. t *ℤ a) ∙ k)
 
 -- the first part of a listed element
 pub narrow-part : (rows : List Vector) (i n : ℕ) (z : Vector) → slice_get rows i ≡ Some z → All IsNarrow rows →
     IsNarrow (take n z)
 narrow-part rows i n z there narrow = All-take (λ a. unsigned_abs a < 2 ^ 31) n z
     (at-All IsNarrow rows i z there narrow)
-
-pub narrow-once : (v : Vector) → IsNarrow v → IsNarrow (scale (pos 1) v)
-narrow-once v h = subst IsNarrow (sym (scale-once v)) h
-
-pub narrow-back : (v : Vector) → IsNarrow v → IsNarrow (scale (negsuc 0) v)
-narrow-back v h = subst IsNarrow (sym (scale-back v)) (IsNarrow-opposite v h)
-
--- where a step leads, with the program's number of columns
-pub step-forward : (cols n : ℕ) (x z y : Vector) → cols ≡ n → y ≡ add x (scale (pos 1) (take cols z)) → y
-    ≡ add x (take n z)
-step-forward cols n x z y same is = is ∙ (λ j. add x (scale-once (take (same j) z) j))
-
-pub step-back : (cols n : ℕ) (x z y : Vector) → cols ≡ n → y ≡ add x (scale (negsuc 0) (take cols z)) → y
-    ≡ sub x (take n z)
-step-back cols n x z y same is = is ∙ ap (λ k. add x (scale (negsuc 0) (take k z))) same ∙ add-back x (take n z)
 
 -- ---- one member after the other
 

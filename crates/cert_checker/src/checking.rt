@@ -7,13 +7,13 @@ ghost use Rattle.fold_theory.specs.Programs.{IsProgram};
 ghost use Rattle.cert_checker.specs.Answers.{checked, IsTrueYes, parts_fit};
 
 use crate::answer::Check;
-use crate::completeness::is_complete;
 use crate::steps::no_step_helps;
 use certificate::Certificate;
+use complete_lists::is_complete;
 use fold_program::Program;
 use fold_theory::Verdict;
-use run_theory::{Claim, Rule};
 use mat_files::Matrix;
+use run_theory::{Claim, Rule};
 use std::alloc::{AllocError, Global};
 
 /// Whether the certificate shows what it claims of the program: yes, with the verdict, exactly where it breaks no

@@ -4,8 +4,6 @@
 
 mod answer;
 mod checking;
-mod completeness;
-mod reduction;
 mod steps;
 
 pub use answer::Check;

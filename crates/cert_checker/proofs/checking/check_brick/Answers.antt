@@ -1,5 +1,5 @@
 use Rattle.fold_program.specs.Faults.{IsBoundedRow}
-use Rattle.cert_checker.proofs.ScanLaws.{at-All}
+use Rattle.complete_lists.proofs.ScanLaws.{at-All}
 use Rattle.cert_checker.proofs.checking.check_brick.Goals as goal
 
 pub no_step_helps-requires-clause-bounded : goal.no_step_helps-requires-clause-bounded
