@@ -1,28 +1,27 @@
 -- A certificate that breaks no rule shows what it claims.
-use Rattle.std.proofs.Common.{◌≡◌, ◌<◌, ◌≤◌, nat_eq, nat_lt, ℤ, pos, ◌≤ℤ◌, Bool, true, false, ◌&&◌, List, [], ◌∷◌, length, Option, Some, None, refl, arith, sym, ◌∙◌, ◌-ℤ◌}
+use Rattle.std.proofs.Common.{◌≡◌, ◌<◌, ◌≤◌, nat_eq, nat_lt, ◌≤ℤ◌, Bool, true, ◌&&◌, List, [], ◌∷◌, length, Option, Some, None, refl, arith, sym, ◌∙◌}
 use Rattle.std.proofs.lemmas.Int.{ints}
 use Rattle.std.specs.List.{AllZip, AllByRecursion}
 use Rattle.fold_theory.specs.declared.Phase.{Phase}
 use Rattle.fold_theory.specs.declared.Phase.TheVariants.{Closed, Counted}
 use Rattle.run_theory.specs.declared.Claim.{Claim}
 use Rattle.fold_theory.specs.declared.Verdict.TheVariants.{Optimal, InfeasibleLink}
-use Rattle.lattice_theory.specs.Vectors.{Vector, sub, zeros}
+use Rattle.lattice_theory.specs.Vectors.{Vector, sub}
 use Rattle.lattice_theory.specs.Matrices.{product}
 use Rattle.lattice_theory.specs.Lattices.{is_complete_for}
 use Rattle.lattice_theory.specs.SignedSums.{vectors}
-use Rattle.lattice_laws.proofs.Tests.{and_true, int_le_true, le_true, lt_true, nat_eq_true}
+use Rattle.lattice_laws.proofs.Tests.{and_true, le_true, lt_true, nat_eq_true}
 use Rattle.lattice_laws.proofs.Conformal.{norm_none}
 use Rattle.lattice_laws.proofs.Products.{length-rows}
 use Rattle.fold_theory.specs.Programs.{Program, Brick, Bricks, IsBrick, IsProgram, AreWithin, MeetsBrickRows, is_within, brick_residual, link_rests, link_miss, cost, phase_cost}
 use Rattle.run_theory.specs.Steps.{AllowsEnd}
 use Rattle.run_theory.specs.Links.{complexity}
 use Rattle.run_theory.specs.Certificates.{Certificate, FoldPart, listed_sums}
-use Rattle.run_theory.specs.Checker.{at_most, potential_of, layers_hold, starts_at_zero, sums_are_closed, point_fits, parts_fit, fold_rules, first_failing, listed_generators, listed_links, Accept, claimed_verdict}
+use Rattle.run_theory.specs.Checker.{layers_hold, starts_at_zero, sums_are_closed, point_fits, parts_fit, fold_rules, first_failing, listed_generators, listed_links, Accept, claimed_verdict}
 use Rattle.fold_theory.specs.Verdicts.{Holds}
 use Rattle.lattice_laws.proofs.Sums.{same_vector}
 use Rattle.piece_laws.proofs.Bounds.{is_within_true}
 use Rattle.yes_laws.proofs.BrickMisses.{all_pass, accepted_holds}
-use Rattle.yes_laws.proofs.Layers.{UnitWalk, walk_bound}
 use Rattle.yes_laws.proofs.ListedSums.{all_listed}
 use Rattle.piece_laws.proofs.Least.{least}
 use Rattle.lattice_theory.specs.Lists.{all_zip}
@@ -31,7 +30,7 @@ use Rattle.piece_laws.specs.Points.{forth}
 use Rattle.piece_laws.specs.Pieces.{IsUnitStep}
 use Rattle.piece_laws.proofs.Starts.{bricks_of}
 use Rattle.piece_laws.proofs.Frames.{AreFrameLists, frame_of_lists}
-use Rattle.yes_laws.proofs.UnitWalks.{step_walk}
+use Rattle.yes_laws.proofs.Potentials.{no_unit_step_gains}
 use Rattle.run_theory.specs.declared.Claim.TheVariants as claim
 
 -- ---- what the rules say
@@ -125,30 +124,6 @@ module _ (p : Program) where
       by Closed k = nat_eq_true (link_miss p (link_rests p x)) 0 k
       by Counted k = tt
 
--- ---- no walk gains
-
-module _ (p : Program) (phase : Phase) (zs : List Vector) (rests : Vector) (x : Bricks) where
-  not_negative : (first : Option ℤ) (c : ℤ) → at_most (Some (pos 0)) first ≡ true → at_most first (Some c) ≡ true →
-      pos 0 ≤ℤ c
-  not_negative None c h k = absurd (cc)
-  not_negative (Some a) c h k = omega (arith, ints, int_le_true (pos 0) a h, int_le_true a c k)
-
-  no_gain : (rows : List (List (Option ℤ))) → layers_hold p phase zs rests p.bricks x rows ≡ true →
-      starts_at_zero p zs rows ≡ true → (h : Bricks) (c : ℤ) →
-      UnitWalk p phase zs rests p.bricks x (zeros p.brick.cols) h c → pos 0 ≤ℤ c
-  no_gain [] layers starts h c walk = absurd (cc)
-  no_gain (row ∷ rows) layers starts h c walk =
-      by (potential_of zs row (zeros p.brick.cols)) refl starts
-    where
-      test : Option (Option ℤ) → Bool
-      test o = elim o [ None ↦ false | Some first ↦ at_most (Some (pos 0)) first ]
-
-      by : (o : Option (Option ℤ)) → potential_of zs row (zeros p.brick.cols) ≡ o → test o ≡ true → pos 0 ≤ℤ c
-      by None e k = absurd (cc)
-      by (Some first) e k =
-          not_negative first c k
-          (walk_bound p phase zs rests p.bricks x row rows (zeros p.brick.cols) first h c layers e walk)
-
 -- ---- the verdicts
 
 module _ (p : Program) (phase : Phase) (c : Certificate) (f : FoldPart) (program : IsProgram p)
@@ -157,14 +132,8 @@ module _ (p : Program) (phase : Phase) (c : Certificate) (f : FoldPart) (program
   held : (h : Bricks) → IsUnitStep p phase (vectors (listed_sums f)) c.point.rows h →
       phase_cost p phase c.point.rows ≤ℤ phase_cost p phase (forth c.point.rows h)
   held h step =
-      let x = c.point.rows in
-      let zs = vectors (listed_sums f) in
-      let start = start_of p phase x program rules.point in
-      let walk = step_walk p zs x program start.within phase h step in
-      let gain =
-      no_gain p phase zs (link_rests p x) x f.potentials.rows rules.layers rules.starts h
-      (phase_cost p phase (forth x h) -ℤ phase_cost p phase x) walk in
-      omega (arith, ints, gain)
+      no_unit_step_gains p phase (vectors (listed_sums f)) c.point.rows f.potentials.rows program
+      (start_of p phase c.point.rows program rules.point).within rules.layers rules.starts h step
 
   -- no point where the phase starts costs less than the point of the certificate
   shown_least : (y : Bricks) → IsStart p phase y → phase_cost p phase c.point.rows ≤ℤ phase_cost p phase y

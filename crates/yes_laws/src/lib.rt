@@ -3,12 +3,16 @@
 //! hold, the potentials say that no such piece lowers the cost, and the rest of the way is shorter.
 #![tactic(auto)]
 
-ghost use Rattle.std.specs.Prelude.{◌≡◌, ℕ};
+ghost use Rattle.std.specs.Prelude.{◌≡◌, ◌≤ℤ◌, ℕ, ℤ, List, Option, IsTrue};
 ghost use Rattle.run_theory.specs.declared.Claim.TheVariants as claim;
-ghost use Rattle.fold_theory.specs.Programs.{Program, IsProgram};
+ghost use Rattle.lattice_theory.specs.Vectors.{Vector};
+ghost use Rattle.fold_theory.specs.declared.Phase.{Phase};
+ghost use Rattle.fold_theory.specs.Programs.{Program, Bricks, IsProgram, AreWithin, link_rests, phase_cost};
 ghost use Rattle.run_theory.specs.Certificates.{Certificate};
-ghost use Rattle.run_theory.specs.Checker.{Accept, claimed_verdict};
+ghost use Rattle.run_theory.specs.Checker.{Accept, claimed_verdict, layers_hold, starts_at_zero};
 ghost use Rattle.fold_theory.specs.Verdicts.{Holds};
+ghost use Rattle.piece_laws.specs.Points.{forth};
+ghost use Rattle.piece_laws.specs.Pieces.{IsUnitStep};
 
 /// Law: a certificate that breaks no rule shows what it claims: that the point of the certificate is feasible and no
 /// feasible point costs less; that it is within the bounds, meets the brick rows and misses the linking rows, and no
@@ -23,4 +27,13 @@ pub fn a_yes_holds()
 pub fn a_yes_on_a_brick_holds()
     ensures { (p : Program) (c : Certificate) (i : ℕ) →
         IsProgram p → c.claim ≡ claim.InfeasibleBrick i → Accept p c → Holds p (claimed_verdict p c) }
+{}
+
+/// Law: where listed potentials hold layer by layer, and that of zero at the beginning is not negative, no unit step of
+/// listed sums leads to a lower phase cost.
+pub fn potentials_that_hold_exclude_a_better_unit_step()
+    ensures { (p : Program) (phase : Phase) (zs : List Vector) (x : Bricks) (rows : List (List (Option ℤ))) →
+        IsProgram p → AreWithin p.bricks x → IsTrue (layers_hold p phase zs (link_rests p x) p.bricks x rows) →
+        IsTrue (starts_at_zero p zs rows) → (h : Bricks) → IsUnitStep p phase zs x h →
+        phase_cost p phase x ≤ℤ phase_cost p phase (forth x h) }
 {}
