@@ -1,6 +1,7 @@
 -- The draws of the generator, and what is drawn for a customer.
 use Rattle.std.specs.Prelude.{ℕ, zero, suc, ◌+◌, ◌*◌, ◌%◌, nat_eq, List, [], ◌∷◌, count_by}
 use Rattle.fold_gen.specs.declared.customers.Price.{Price}
+use Rattle.fold_gen.specs.declared.customers.Planted.{Planted}
 use Rattle.fold_gen.specs.declared.customers.Customer.{Customer}
 
 -- the number that comes after z
@@ -25,6 +26,9 @@ suppliers (suc units) z = draw 3 z ∷ suppliers units (next z)
 abbrev pub share : ℕ → List ℕ → ℕ
 share j drawn = count_by (λ supplier. nat_eq supplier j) drawn
 
+abbrev pub planted : List ℕ → Planted
+planted drawn = record { first = share 0 drawn; second = share 1 drawn; third = share 2 drawn }
+
 abbrev pub price : ℕ → Price
 price z = record { a = draw 3 z; b = draw 7 (next z) }
 
@@ -35,10 +39,10 @@ demand z = 1 + draw 4 z
 abbrev pub customer : ℕ → Customer
 customer z = record {
   demand = demand z;
-  prices = price (after 1 z) ∷ price (after 3 z) ∷ price (after 5 z) ∷ [];
-  planted =
-      share 0 (suppliers (demand z) (after 7 z)) ∷ share 1 (suppliers (demand z) (after 7 z))
-      ∷ share 2 (suppliers (demand z) (after 7 z)) ∷ [];
+  first = price (after 1 z);
+  second = price (after 3 z);
+  third = price (after 5 z);
+  planted = planted (suppliers (demand z) (after 7 z));
 }
 
 -- so many customers, one after the other

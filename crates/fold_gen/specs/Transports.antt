@@ -1,5 +1,5 @@
 -- Transport from three suppliers: each customer is a brick, and each supplier a column and a linking row.
-use Rattle.std.specs.Prelude.{◌≡◌, ℕ, pos, List, [], ◌∷◌, map, replicate, sum_by, get_or}
+use Rattle.std.specs.Prelude.{◌≡◌, ℕ, pos, List, [], ◌∷◌, map, replicate, sum_by}
 use Rattle.fold_theory.specs.declared.Cost.{Cost}
 use Rattle.fold_theory.specs.declared.Cost.TheVariants.{Quadratic}
 use Rattle.fold_theory.specs.declared.Relation.TheVariants.{Equal}
@@ -20,18 +20,18 @@ brick_of c = record {
   lower = zeros 3;
   upper = replicate 3 (pos c.demand);
   right = pos c.demand ∷ [];
-  costs = map cost_of c.prices;
+  costs = cost_of c.first ∷ cost_of c.second ∷ cost_of c.third ∷ [];
 }
 
--- what this supplier is planted to send, in all
-abbrev pub sent : ℕ → List Customer → ℕ
-sent j cs = sum_by (λ c. get_or c.planted j 0) cs
+-- what the suppliers are planted to send, in all
+abbrev pub sent : List Customer → Vector
+sent cs = pos (sum_by (λ c. c.planted.first) cs) ∷ pos (sum_by (λ c. c.planted.second) cs) ∷ pos (sum_by (λ c. c.planted.third) cs) ∷ []
 
 -- each supplier sends just what is planted
 abbrev pub transport_of : List Customer → Program
 transport_of cs = record {
   link = record { cols = 3; rows = unit_vector 3 0 ∷ unit_vector 3 1 ∷ unit_vector 3 2 ∷ [] };
-  link_right = pos (sent 0 cs) ∷ pos (sent 1 cs) ∷ pos (sent 2 cs) ∷ [];
+  link_right = sent cs;
   relations = Equal ∷ Equal ∷ Equal ∷ [];
   brick = record { cols = 3; rows = (pos 1 ∷ pos 1 ∷ pos 1 ∷ []) ∷ [] };
   bricks = map brick_of cs;

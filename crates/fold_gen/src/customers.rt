@@ -1,8 +1,8 @@
 //! The customers of a transport program.
 
-ghost use Rattle.std.specs.Prelude.{◌≡◌, ◌+◌, ◌<◌, ◌≤◌, length, IfOk, [], ◌∷◌};
+ghost use Rattle.std.specs.Prelude.{◌≡◌, ◌<◌, IfOk};
 ghost use Rattle.fold_gen.specs.Draws as drawn;
-ghost use Rattle.fold_gen.specs.Draws.{next, after, demand, share, suppliers};
+ghost use Rattle.fold_gen.specs.Draws.{next, after, demand, suppliers};
 
 use crate::draws::Draws;
 use std::alloc::{AllocError, Global};
@@ -14,12 +14,22 @@ pub struct Price {
     pub b: u32,
 }
 
-/// A customer: how many units it wants, the price of each supplier, and how many units each is planted to send.
+/// How many units each supplier is planted to send.
+#[derive(Clone, Copy, Debug, PartialEq, Eq, Drop)]
+pub struct Planted {
+    pub first: u32,
+    pub second: u32,
+    pub third: u32,
+}
+
+/// A customer: how many units it wants, the price of each supplier, and what is planted.
 #[derive(Clone, Copy, Debug, PartialEq, Eq, Drop)]
 pub struct Customer {
     pub demand: u32,
-    pub prices: [Price; 3],
-    pub planted: [u32; 3],
+    pub first: Price,
+    pub second: Price,
+    pub third: Price,
+    pub planted: Planted,
 }
 
 /// So many customers, one after the other, drawn from this number.
@@ -29,7 +39,7 @@ pub fn customers(alloc: Global, number: u32, count: u32) -> Result<Vec<Customer>
 {
     let mut draws = Draws { z: number };
     let mut all = Vec::new(alloc);
-    for _ in 0..count {
+    for _customer in 0..count {
         all.push(draw_customer(&mut draws))?;
     }
     Ok(all)
@@ -43,11 +53,15 @@ fn draw_customer(draws: &mut Draws) -> Customer
     ensures small { draws.new.z < 65537 }
 {
     let demand = 1 + draws.draw(4);
-    let prices = [draw_price(draws), draw_price(draws), draw_price(draws)];
-    let planted = draw_shares(draws, demand);
+    let first = draw_price(draws);
+    let second = draw_price(draws);
+    let third = draw_price(draws);
+    let planted = draw_planted(draws, demand);
     Customer {
         demand,
-        prices,
+        first,
+        second,
+        third,
         planted,
     }
 }
@@ -65,19 +79,22 @@ fn draw_price(draws: &mut Draws) -> Price
 }
 
 /// How often each supplier is drawn for so many units.
-fn draw_shares(draws: &mut Draws, units: u32) -> [u32; 3]
+fn draw_planted(draws: &mut Draws, units: u32) -> Planted
     requires { draws.old.z < 65537 }
-    ensures planted { result ≡ share 0 (suppliers units draws.old.z) ∷ share 1 (suppliers units draws.old.z) ∷ share 2 (suppliers units draws.old.z) ∷ [] }
+    ensures planted { result ≡ drawn.planted (suppliers units draws.old.z) }
     ensures turned { draws.new.z ≡ after units draws.old.z }
     ensures small { draws.new.z < 65537 }
 {
     let (mut first, mut second, mut third) = (0, 0, 0);
     for _unit in 0..units {
-        match draws.draw(3) {
-            0 => first += 1,
-            1 => second += 1,
-            _ => third += 1,
-        }
+        let supplier = draws.draw(3);
+        first += u32::from(supplier == 0);
+        second += u32::from(supplier == 1);
+        third += u32::from(supplier == 2);
     }
-    [first, second, third]
+    Planted {
+        first,
+        second,
+        third,
+    }
 }

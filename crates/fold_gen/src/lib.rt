@@ -9,3 +9,6 @@ mod draws;
 mod programs;
 
 pub use programs::transport;
+
+#[cfg(test)]
+mod tests;

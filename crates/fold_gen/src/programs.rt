@@ -1,14 +1,13 @@
 //! The transport programs.
 
-ghost use Rattle.std.specs.Prelude.{◌≡◌, ◌<◌, ◌≤◌, ◌^◌, pos, length, get_or, map, flat_map, replicate, All, IfOk, [], ◌∷◌, ◌++◌};
-ghost use Rattle.lattice_theory.specs.Vectors.{zeros};
-ghost use Rattle.lattice_theory.specs.BasisLimits.{IsNarrow};
+ghost use Rattle.std.specs.Prelude.{◌≡◌, ◌<◌, ◌≤◌, ◌^◌, pos, length, map, flat_map, All, IfOk, IsTrue, [], ◌∷◌, ◌++◌};
+ghost use Rattle.lattice_theory.specs.Vectors.{is_bounded};
 ghost use Rattle.fold_theory.specs.Programs.{Bricks, IsFeasible};
 ghost use Rattle.convex_costs.specs.Bounds.{AreBounded};
 ghost use Rattle.fold_program.specs.Parts.{program_of};
 ghost use Rattle.fold_program.specs.Faults.{parts_value, AreWithinLimits, IsBoundedRow};
 ghost use Rattle.fold_gen.specs.Transports as transports;
-ghost use Rattle.fold_gen.specs.Transports.{cost_of, sent, transport_of};
+ghost use Rattle.fold_gen.specs.Transports.{brick_of, cost_of, transport_of};
 
 use crate::customers::{Customer, Price, customers};
 use fold_program::{Cost, Parts, Program};
@@ -32,7 +31,10 @@ pub fn transport(alloc: Global, number: u32, bricks: u32) -> Result<Program, All
     let customers = customers(alloc, number, bricks)?;
     let parts = parts(alloc, &customers)?;
     // the parts fit each other, their costs are convex and small: no fault but want of memory is left
-    Program::new(alloc, parts).map_err(|_| AllocError)
+    match Program::new(alloc, parts) {
+        Ok(program) => Ok(program),
+        Err(_) => Err(AllocError),
+    }
 }
 
 /// The parts of the program with these customers.
@@ -43,27 +45,30 @@ fn parts(alloc: Global, customers: &[Customer]) -> Result<Parts, AllocError>
 {
     let count = customers.len() as u32;
     let link = [1, 0, 0, 0, 1, 0, 0, 0, 1].to_vec(alloc)?;
+    let brick = [1, 1, 1].to_vec(alloc)?;
     let lower = vec![in alloc; 0; 3 * customers.len()]?;
+    let upper = uppers(alloc, customers)?;
     let right = rights(alloc, customers)?;
+    let costs = costs(alloc, customers)?;
     Ok(Parts {
         link: Matrix::new(3, 3, link),
-        brick: Matrix::new(1, 3, [1, 1, 1].to_vec(alloc)?),
+        brick: Matrix::new(1, 3, brick),
         lower: Matrix::new(count, 3, lower),
-        upper: Matrix::new(count, 3, uppers(alloc, customers)?),
+        upper: Matrix::new(count, 3, upper),
         right: Matrix::new(1, 3 + count, right),
-        costs: costs(alloc, customers)?,
+        costs,
     })
 }
 
 /// The upper bounds: the demand of each customer, for each supplier.
 fn uppers(alloc: Global, customers: &[Customer]) -> Result<Vec<i64>, AllocError>
     requires { length customers.now ≤ 10000 }
-    ensures uppers { IfOk result (λ uppers. uppers.items ≡ flat_map (λ c. replicate 3 (pos c.demand)) customers.now) }
+    ensures uppers { IfOk result (λ uppers. uppers.items ≡ flat_map (λ c. (brick_of c).upper) customers.now) }
     ensures bounded { IfOk result (λ uppers. IsBoundedRow uppers.items) }
 {
     let mut uppers = Vec::new(alloc);
     for customer in customers {
-        let demand = i64::from(customer.demand);
+        let demand = whole(customer.demand);
         uppers.extend_from_slice(&[demand, demand, demand])?;
     }
     Ok(uppers)
@@ -72,44 +77,59 @@ fn uppers(alloc: Global, customers: &[Customer]) -> Result<Vec<i64>, AllocError>
 /// The right sides: what each supplier is planted to send, and then the demands.
 fn rights(alloc: Global, customers: &[Customer]) -> Result<Vec<i64>, AllocError>
     requires { length customers.now ≤ 10000 }
-    ensures rights { IfOk result (λ rights. rights.items ≡ (pos (sent 0 customers.now) ∷ pos (sent 1 customers.now) ∷ pos (sent 2 customers.now) ∷ []) ++ map (λ c. pos c.demand) customers.now) }
+    ensures rights { IfOk result (λ rights. rights.items ≡ transports.sent customers.now ++ map (λ c. pos c.demand) customers.now) }
     ensures bounded { IfOk result (λ rights. IsBoundedRow rights.items) }
 {
+    let Sent {
+        first,
+        second,
+        third,
+    } = sent_in_all(customers);
     let mut rights = Vec::new(alloc);
-    for supplier in 0..3 {
-        rights.push(planted(customers, supplier))?;
-    }
+    rights.extend_from_slice(&[first, second, third])?;
     for customer in customers {
-        rights.push(i64::from(customer.demand))?;
+        rights.push(whole(customer.demand))?;
     }
     Ok(rights)
 }
 
-/// What a supplier, numbered from 0, is planted to send.
-fn planted(customers: &[Customer], supplier: usize) -> i64
-    requires few { length customers.now ≤ 10000 }
-    requires inside { supplier < 3 }
-    ensures sent { result ≡ pos (sent supplier customers.now) }
-    ensures small { sent supplier customers.now < 2 ^ 62 }
+/// What each supplier is planted to send, in all.
+struct Sent {
+    first: i64,
+    second: i64,
+    third: i64,
+}
+
+/// What each supplier is planted to send, in all.
+fn sent_in_all(customers: &[Customer]) -> Sent
+    requires { length customers.now ≤ 10000 }
+    ensures sent { result.first ∷ result.second ∷ result.third ∷ [] ≡ transports.sent customers.now }
+    ensures small { IsBoundedRow (transports.sent customers.now) }
 {
-    let mut sum = 0;
+    let (mut first, mut second, mut third) = (0, 0, 0);
     for customer in customers {
-        sum += i64::from(customer.planted[supplier]);
+        first += whole(customer.planted.first);
+        second += whole(customer.planted.second);
+        third += whole(customer.planted.third);
     }
-    sum
+    Sent {
+        first,
+        second,
+        third,
+    }
 }
 
 /// The costs, customer by customer and supplier by supplier.
 fn costs(alloc: Global, customers: &[Customer]) -> Result<Vec<Cost>, AllocError>
     requires { length customers.now ≤ 10000 }
-    ensures costs { IfOk result (λ costs. costs.items ≡ flat_map (λ c. map cost_of c.prices) customers.now) }
+    ensures costs { IfOk result (λ costs. costs.items ≡ flat_map (λ c. (brick_of c).costs) customers.now) }
     ensures numbers { IfOk result (λ costs. All AreBounded costs.items) }
 {
     let mut costs = Vec::new(alloc);
     for customer in customers {
-        for price in customer.prices {
-            costs.push(cost(price))?;
-        }
+        costs.push(cost(customer.first))?;
+        costs.push(cost(customer.second))?;
+        costs.push(cost(customer.third))?;
     }
     Ok(costs)
 }
@@ -120,8 +140,17 @@ fn cost(price: Price) -> Cost
     ensures numbers { AreBounded result }
 {
     Cost::Quadratic {
-        a: i64::from(price.a),
-        b: i64::from(price.b),
+        a: whole(price.a),
+        b: whole(price.b),
         c: 0,
     }
+}
+
+/// The same number, which is small.
+fn whole(number: u32) -> i64
+    ensures value { result ≡ pos number }
+    ensures small { number < 2 ^ 32 }
+    ensures bounded { IsTrue (is_bounded result) }
+{
+    i64::from(number)
 }

@@ -1,7 +1,8 @@
 -- The cost of a point, brick by brick and column by column; the widest bounds.
-use Rattle.std.proofs.Common.{◌≡◌, ℕ, zero, suc, ◌+◌, ◌-◌, ◌*◌, ◌^◌, ◌≤◌, ◌<◌, ℤ, pos, ◌+ℤ◌, ◌-ℤ◌, ◌≤ℤ◌, unsigned_abs, List, [], ◌∷◌, ◌++◌, length, map, take, drop, flat_map, refl, ap, arith, sym, ◌∙◌, Some, slice_get, get_or, max, sum_by, ◌⊎◌, inl, inr, IsTrue, true}
+use Rattle.std.proofs.Common.{◌≡◌, ℕ, zero, suc, ◌+◌, ◌-◌, ◌*◌, ◌^◌, ◌≤◌, ◌<◌, ℤ, pos, ◌+ℤ◌, ◌-ℤ◌, ◌≤ℤ◌, unsigned_abs, List, [], ◌∷◌, ◌++◌, length, map, take, drop, flat_map, refl, ap, arith, sym, ◌∙◌, Some, slice_get, get_or, max, sum_by, ◌⊎◌, inl, inr, IsTrue, true, FitsSigned}
 use Rattle.std.specs.List.{AllZip, AllByRecursion}
-use Rattle.std.proofs.lemmas.Int.{ints}
+use Rattle.std.specs.Int.{w128}
+use Rattle.std.proofs.lemmas.Int.{ints, fits_signed_from_abs}
 use Rattle.std.proofs.lemmas.Bool.Decides.{nat_tests}
 use Rattle.std.proofs.lemmas.List.{drop_all, take-map, drop-map}
 use Rattle.std.proofs.lemmas.List.Sums.{sum_by-cons}
@@ -13,7 +14,7 @@ use Rattle.fold_theory.specs.declared.Cost.{Cost}
 use Rattle.fold_theory.specs.Costs.{BoundedCost, value}
 use Rattle.fold_theory.specs.Programs.{Program, Brick, Bricks, IsWithin, AreWithin, brick_cost}
 use Rattle.fold_program.specs.Parts.{bricks_from}
-use Rattle.fold_program.specs.Refusals.{brick_magnitude}
+use Rattle.fold_program.specs.Refusals.{brick_magnitude, total_magnitude}
 use Rattle.fold_program.specs.Places.{OfBrick, OfColumn}
 use Rattle.fold_program.specs.Bounds.{AreCostsOf, cost_magnitude}
 use Rattle.fold_program.proofs.ScanLaws.{flat}
@@ -211,3 +212,28 @@ column_inside p i j cs P b column =
     let lower : slice_get (map (λ (c : BoundedCost). c.lower) cs) (j - 1) ≡ Some column.1 = sym (ap (λ (d : Brick). slice_get d.lower (j - 1)) same ∙ ap (λ v. slice_get v (j - 1)) b.2.lower) ∙ column.5 in
     let within = slice_get_within (map (λ (c : BoundedCost). c.lower) cs) (j - 1) column.1 lower in
     omega (arith, within, length-map (λ (c : BoundedCost). c.lower) cs)
+
+-- the cost so far, the cost of the next brick, and what the magnitudes leave for the others
+pub record IsNextCost (p : Program) (i : ℕ) (so_far here : ℤ) : Type 0 where
+  pub fits : FitsSigned w128 (so_far +ℤ here)
+  pub left : unsigned_abs (so_far +ℤ here) + magnitude_from (i + 1) p.bricks ≤ total_magnitude p
+  pub small : unsigned_abs (so_far +ℤ here) ≤ 2 ^ 120
+
+module _ (p : Program) (i : ℕ) (cs : List BoundedCost) (so_far : ℤ) (total : total_magnitude p ≤ 2 ^ 120) (brick : OfBrick p i (λ b. AreCostsOf b cs)) (from : 1 ≤ i)
+    (small : unsigned_abs so_far + magnitude_from i p.bricks ≤ total_magnitude p) where
+  -- the magnitudes of the next brick are among those of all
+  here_and_left : magnitude_from i p.bricks ≡ sum_by cost_magnitude cs + magnitude_from (i + 1) p.bricks
+  here_and_left =
+      let weight = brick_magnitude_is brick.0 cs brick.2 in
+      let left = magnitude_from_step i p.bricks brick.0 from brick.1 in
+      omega (arith, weight, left)
+
+  pub few_here : sum_by cost_magnitude cs ≤ 2 ^ 120
+  few_here = omega (arith, total, here_and_left, small)
+
+  pub next_cost : (here : ℤ) → unsigned_abs here ≤ sum_by cost_magnitude cs → IsNextCost p i so_far here
+  next_cost here within = record {
+    fits = fits_signed_from_abs w128 _ (omega (arith, ints, total, here_and_left, small, within));
+    left = omega (arith, ints, here_and_left, small, within);
+    small = omega (arith, ints, total, here_and_left, small, within);
+  }

@@ -10,6 +10,6 @@ mod BoundLaws
 mod AcceptLaws
 mod PartsLaws
 mod CostLaws
-mod PointLaws
+pub mod PointLaws
 mod RestLaws
-mod PlaceLaws
+pub mod PlaceLaws

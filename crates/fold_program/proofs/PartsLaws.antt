@@ -20,7 +20,7 @@ use Rattle.fold_program.specs.Faults.{IsBoundedRow, AreWithinLimits, IsProgramFa
 use Rattle.fold_program.specs.Kept.{IsKept}
 use Rattle.fold_program.specs.Bounds.{IsGood, AreBoundCosts, IsCostRefusal, cost_magnitude, scan, crossed_at, fault_at}
 use Rattle.fold_program.proofs.ScanLaws.{flat, crossed_rows, fault_rows}
-use Rattle.fold_program.proofs.AcceptLaws.{AreShaped, length-flat, bricks_fit, bricks_weigh}
+use Rattle.fold_program.proofs.AcceptLaws.{AreShaped, shaped_from_none, length-flat, bricks_fit, bricks_weigh}
 
 -- every row is within the limit, so every entry is
 pub bounded_flat : (rows : List Vector) → All IsBoundedRow rows → IsBoundedRow (flat rows)
@@ -33,7 +33,10 @@ first_part : (xs ys : List Refusal) (r : Refusal) → head_of xs ≡ Some r → 
 first_part [] ys r e = absurd (cc)
 first_part (x ∷ xs) ys r e = e
 
-module _ (p : PartsValue) (shaped : AreShaped p) (even : AreEven p) where
+module _ (p : PartsValue) (fits : None ≡ first_misshaped p) (even : AreEven p) where
+  shaped : AreShaped p
+  shaped = shaped_from_none p (sym fits)
+
   lower_even : AllByRecursion (λ row. length row ≡ p.link.cols) p.lower.rows
   lower_even = subst (λ (n : ℕ). AllByRecursion (λ row. length row ≡ n) p.lower.rows) shaped.lower_cols (recursion_from_All (λ row. length row ≡ p.lower.cols) p.lower.rows even.lower)
 
@@ -140,14 +143,14 @@ module _ (p : PartsValue) (shaped : AreShaped p) (even : AreEven p) where
         }
 
 -- the fault of the costs is that of the parts
-pub is_program_fault : (p : Parts) → AreShaped (parts_value p) → AreEven (parts_value p) → first_misshaped (parts_value p) ≡ None → (f : ProgramFault) →
+pub is_program_fault : (p : Parts) → None ≡ first_misshaped (parts_value p) → AreEven (parts_value p) → (f : ProgramFault) →
     scan (crossed_at p.link.cols) 0 (zip (flat p.lower.rows) (flat p.upper.rows)) ≡ [] →
     IsCostRefusal (scan (fault_at p.link.cols) 0 (zip p.costs.items (zip (flat p.lower.rows) (flat p.upper.rows)))) f → IsProgramFault p f
-is_program_fault p shaped even fits (fault.Cost i j c) none refused = (fits, refused_cost (parts_value p) shaped even (CostAt i j c) none refused)
-is_program_fault p shaped even fits (fault.Shape k) none refused = absurd refused
-is_program_fault p shaped even fits (fault.CrossedBounds i j) none refused = absurd refused
-is_program_fault p shaped even fits fault.CostSumTooLarge none refused = absurd refused
-is_program_fault p shaped even fits fault.Memory none refused = tt
+is_program_fault p fits even (fault.Cost i j c) none refused = (sym fits, refused_cost (parts_value p) fits even (CostAt i j c) none refused)
+is_program_fault p fits even (fault.Shape k) none refused = absurd refused
+is_program_fault p fits even (fault.CrossedBounds i j) none refused = absurd refused
+is_program_fault p fits even fault.CostSumTooLarge none refused = absurd refused
+is_program_fault p fits even fault.Memory none refused = tt
 
 -- a program with other relations, one for each linking row
 pub is_related : (p : Program) (relations : List Relation) → IsProgram p → length relations ≡ length p.link.rows → IsProgram (related relations p)
@@ -160,32 +163,34 @@ is_related p relations program size = record {
 }
 
 -- all that a program keeps is true of parts that are accepted
-pub is_kept : (p : PartsValue) → AreShaped p → AreEven p → AreWithinLimits p → (cs : List BoundedCost) → AreBoundCosts p.costs (flat p.lower.rows) (flat p.upper.rows) cs →
+pub is_kept : (p : PartsValue) → None ≡ first_misshaped p → AreEven p → AreWithinLimits p → (cs : List BoundedCost) → AreBoundCosts p.costs (flat p.lower.rows) (flat p.upper.rows) cs →
     min (sum_by cost_magnitude cs) (2 ^ 128 - 1) ≤ 2 ^ 120 → (relations : List Relation) → length relations ≡ length p.link.rows →
     IsKept (record { link = p.link; brick = p.brick; lower = p.lower; upper = p.upper; right = p.right; costs = cs; relations = relations })
-is_kept p shaped even limits cs bound small relations size = record {
-  link_rows = shaped.link_rows;
-  cols_from = shaped.cols_from;
-  cols_to = shaped.cols_to;
-  brick_rows = shaped.brick_rows;
-  brick_cols = shaped.brick_cols;
-  bricks_from = shaped.lower_from;
-  bricks_to = shaped.lower_to;
-  lower_cols = shaped.lower_cols;
-  upper_rows = shaped.upper_rows;
-  upper_cols = shaped.upper_cols;
-  right_rows = shaped.right_rows;
-  right_cols = shaped.right_cols;
-  link_narrow = limits.link;
-  brick_narrow = limits.brick;
-  lower_bounded = limits.lower;
-  upper_bounded = limits.upper;
-  lower_widths = subst (λ (n : ℕ). All (λ row. length row ≡ n) p.lower.rows) shaped.lower_cols even.lower;
-  upper_widths = subst (λ (n : ℕ). All (λ row. length row ≡ n) p.upper.rows) shaped.upper_cols even.upper;
-  lowers = bound.lower_is;
-  uppers = bound.upper_is;
-  small = subst (λ (costs : List Cost). total_magnitude (program_of (record { link = p.link; brick = p.brick; lower = p.lower; upper = p.upper; right = p.right; costs = costs })) ≤ 2 ^ 120)
-      (sym bound.costs_are) (small_sum p shaped even cs bound small);
-  program = subst (λ (costs : List Cost). IsProgram (related relations (program_of (record { link = p.link; brick = p.brick; lower = p.lower; upper = p.upper; right = p.right; costs = costs }))))
-      (sym bound.costs_are) (is_related (program_of p) relations (is_program p shaped even cs bound) size);
-}
+is_kept p fits even limits cs bound small relations size =
+    let shaped = shaped_from_none p (sym fits) in
+    record {
+      link_rows = shaped.link_rows;
+      cols_from = shaped.cols_from;
+      cols_to = shaped.cols_to;
+      brick_rows = shaped.brick_rows;
+      brick_cols = shaped.brick_cols;
+      bricks_from = shaped.lower_from;
+      bricks_to = shaped.lower_to;
+      lower_cols = shaped.lower_cols;
+      upper_rows = shaped.upper_rows;
+      upper_cols = shaped.upper_cols;
+      right_rows = shaped.right_rows;
+      right_cols = shaped.right_cols;
+      link_narrow = limits.link;
+      brick_narrow = limits.brick;
+      lower_bounded = limits.lower;
+      upper_bounded = limits.upper;
+      lower_widths = subst (λ (n : ℕ). All (λ row. length row ≡ n) p.lower.rows) shaped.lower_cols even.lower;
+      upper_widths = subst (λ (n : ℕ). All (λ row. length row ≡ n) p.upper.rows) shaped.upper_cols even.upper;
+      lowers = bound.lower_is;
+      uppers = bound.upper_is;
+      small = subst (λ (costs : List Cost). total_magnitude (program_of (record { link = p.link; brick = p.brick; lower = p.lower; upper = p.upper; right = p.right; costs = costs })) ≤ 2 ^ 120)
+          (sym bound.costs_are) (small_sum p fits even cs bound small);
+      program = subst (λ (costs : List Cost). IsProgram (related relations (program_of (record { link = p.link; brick = p.brick; lower = p.lower; upper = p.upper; right = p.right; costs = costs }))))
+          (sym bound.costs_are) (is_related (program_of p) relations (is_program p fits even cs bound) size);
+    }

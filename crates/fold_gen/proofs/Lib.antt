@@ -1,0 +1,4 @@
+mod KnownValues
+mod DrawLaws
+mod TransportLaws
+mod PlantedLaws
