@@ -4,11 +4,12 @@ use Rattle.std.proofs.lemmas.Grind.{flat_map-append}
 use Rattle.std.proofs.lemmas.List.{append-nil, take_more, take_all, map-append, length-map}
 use Rattle.std.proofs.lemmas.List.Elements.{All-nil, All-cons}
 use Rattle.lattice_theory.specs.Vectors.{Vector, is_bounded}
-use Rattle.lattice_theory.specs.Matrices.{rows_of, unit_vector}
+use Rattle.lattice_theory.specs.Matrices.{rows_of}
+use Rattle.fold_theory.specs.Programs.{Brick}
 use Rattle.fold_program.specs.Parts.{bricks_from, program_of}
 use Rattle.fold_program.specs.Faults.{IsBoundedRow}
 use Rattle.fold_gen.specs.declared.customers.Customer.{Customer}
-use Rattle.fold_gen.specs.Transports.{brick_of, sent, transport_of}
+use Rattle.fold_gen.specs.Transports.{brick_of, sent, links, shares, transport_of}
 
 -- three entries more
 three_more : (n : ℕ) (a : ℤ) → replicate (3 * suc n) a ≡ a ∷ a ∷ a ∷ replicate (3 * n) a
@@ -68,8 +69,8 @@ three_pushes xs a b c = append_assoc (xs ++ a ∷ []) (b ∷ []) (c ∷ []) ∙ 
 -- the parts of these customers make their program
 pub program_made : (cs : List Customer) (right : Vector) → right ≡ sent cs ++ map (λ c. pos c.demand) cs →
     program_of (record {
-      link = record { cols = 3; rows = unit_vector 3 0 ∷ unit_vector 3 1 ∷ unit_vector 3 2 ∷ [] };
-      brick = record { cols = 3; rows = (pos 1 ∷ pos 1 ∷ pos 1 ∷ []) ∷ [] };
+      link = links;
+      brick = shares;
       lower = record { cols = 3; rows = rows_of (length cs) 3 (replicate (3 * length cs) (pos 0)) };
       upper = record { cols = 3; rows = rows_of (length cs) 3 (flat_map (λ c. (brick_of c).upper) cs) };
       right = record { cols = 3 + length cs; rows = rows_of 1 (3 + length cs) right };
@@ -77,5 +78,6 @@ pub program_made : (cs : List Customer) (right : Vector) → right ≡ sent cs +
     }) ≡ transport_of cs
 program_made cs right is =
     let size : length right ≤ 3 + length cs = omega (arith, ap length is, length-map cs (λ (c : Customer). pos c.demand)) in
-    let one : take (3 + length cs) right ++ [] ≡ sent cs ++ map (λ (c : Customer). pos c.demand) cs = append-nil (take (3 + length cs) right) ∙ take_all (3 + length cs) right size ∙ is in
-    ?
+    let one : take (3 + length cs) right ++ [] ≡ sent cs ++ map (λ (c : Customer). pos c.demand) cs =
+    append-nil (take (3 + length cs) right) ∙ take_all (3 + length cs) right size ∙ is in
+    rw one (ap (λ (bs : List Brick). record (transport_of cs) { bricks = bs }) (bricks_made cs))

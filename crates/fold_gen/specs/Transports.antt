@@ -4,7 +4,7 @@ use Rattle.fold_theory.specs.declared.Cost.{Cost}
 use Rattle.fold_theory.specs.declared.Cost.TheVariants.{Quadratic}
 use Rattle.fold_theory.specs.declared.Relation.TheVariants.{Equal}
 use Rattle.lattice_theory.specs.Vectors.{Vector, zeros}
-use Rattle.lattice_theory.specs.Matrices.{unit_vector}
+use Rattle.lattice_theory.specs.Matrices.{Matrix, unit_vector}
 use Rattle.fold_theory.specs.Programs.{Program, Brick}
 use Rattle.fold_gen.specs.declared.customers.Price.{Price}
 use Rattle.fold_gen.specs.declared.customers.Customer.{Customer}
@@ -27,13 +27,20 @@ brick_of c = record {
 abbrev pub sent : List Customer → Vector
 sent cs = pos (sum_by (λ c. c.planted.first) cs) ∷ pos (sum_by (λ c. c.planted.second) cs) ∷ pos (sum_by (λ c. c.planted.third) cs) ∷ []
 
+-- each supplier has a linking row, and each customer takes from all
+abbrev pub links : Matrix
+links = record { cols = 3; rows = unit_vector 3 0 ∷ unit_vector 3 1 ∷ unit_vector 3 2 ∷ [] }
+
+abbrev pub shares : Matrix
+shares = record { cols = 3; rows = (pos 1 ∷ pos 1 ∷ pos 1 ∷ []) ∷ [] }
+
 -- each supplier sends just what is planted
 abbrev pub transport_of : List Customer → Program
 transport_of cs = record {
-  link = record { cols = 3; rows = unit_vector 3 0 ∷ unit_vector 3 1 ∷ unit_vector 3 2 ∷ [] };
+  link = links;
   link_right = sent cs;
   relations = Equal ∷ Equal ∷ Equal ∷ [];
-  brick = record { cols = 3; rows = (pos 1 ∷ pos 1 ∷ pos 1 ∷ []) ∷ [] };
+  brick = shares;
   bricks = map brick_of cs;
 }
 

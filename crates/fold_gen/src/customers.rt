@@ -1,6 +1,6 @@
 //! The customers of a transport program.
 
-ghost use Rattle.std.specs.Prelude.{◌≡◌, ◌<◌, IfOk};
+ghost use Rattle.std.specs.Prelude.{◌≡◌, ◌<◌, ◌≤◌, IfOk, cond, nat_eq};
 ghost use Rattle.fold_gen.specs.Draws as drawn;
 ghost use Rattle.fold_gen.specs.Draws.{next, after, demand, suppliers};
 
@@ -88,13 +88,21 @@ fn draw_planted(draws: &mut Draws, units: u32) -> Planted
     let (mut first, mut second, mut third) = (0, 0, 0);
     for _unit in 0..units {
         let supplier = draws.draw(3);
-        first += u32::from(supplier == 0);
-        second += u32::from(supplier == 1);
-        third += u32::from(supplier == 2);
+        first += one_if_same(supplier, 0);
+        second += one_if_same(supplier, 1);
+        third += one_if_same(supplier, 2);
     }
     Planted {
         first,
         second,
         third,
     }
+}
+
+/// 1 for the same supplier, 0 for another.
+fn one_if_same(drawn: u32, supplier: u32) -> u32
+    ensures one { result ≡ cond (nat_eq drawn supplier) 1 0 }
+    ensures small { result ≤ 1 }
+{
+    if drawn == supplier { 1 } else { 0 }
 }

@@ -2,6 +2,7 @@
 
 ghost use Rattle.std.specs.Prelude.{◌≡◌, ◌<◌, ◌≤◌, ◌^◌, pos, length, map, flat_map, All, IfOk, IsTrue, [], ◌∷◌, ◌++◌};
 ghost use Rattle.lattice_theory.specs.Vectors.{is_bounded};
+ghost use Rattle.lattice_theory.specs.BasisLimits.{IsNarrow};
 ghost use Rattle.fold_theory.specs.Programs.{Bricks, IsFeasible};
 ghost use Rattle.convex_costs.specs.Bounds.{AreBounded};
 ghost use Rattle.fold_program.specs.Parts.{program_of};
@@ -44,20 +45,37 @@ fn parts(alloc: Global, customers: &[Customer]) -> Result<Parts, AllocError>
     ensures program { IfOk result (λ p. program_of (parts_value p) ≡ transport_of customers.now) }
 {
     let count = customers.len() as u32;
-    let link = [1, 0, 0, 0, 1, 0, 0, 0, 1].to_vec(alloc)?;
-    let brick = [1, 1, 1].to_vec(alloc)?;
+    let link = links(alloc)?;
+    let brick = shares(alloc)?;
     let lower = vec![in alloc; 0; 3 * customers.len()]?;
     let upper = uppers(alloc, customers)?;
     let right = rights(alloc, customers)?;
     let costs = costs(alloc, customers)?;
     Ok(Parts {
-        link: Matrix::new(3, 3, link),
-        brick: Matrix::new(1, 3, brick),
+        link,
+        brick,
         lower: Matrix::new(count, 3, lower),
         upper: Matrix::new(count, 3, upper),
         right: Matrix::new(1, 3 + count, right),
         costs,
     })
+}
+
+/// The linking matrix: a row for each supplier.
+fn links(alloc: Global) -> Result<Matrix, AllocError>
+    ensures links { IfOk result (λ m. m ≡ transports.links) }
+    ensures narrow { IfOk result (λ m. All IsNarrow m.rows) }
+{
+    let entries = [1, 0, 0, 0, 1, 0, 0, 0, 1].to_vec(alloc)?;
+    Ok(Matrix::new(3, 3, entries))
+}
+
+/// The brick matrix: the shares of all suppliers in one row.
+fn shares(alloc: Global) -> Result<Matrix, AllocError>
+    ensures shares { IfOk result (λ m. m ≡ transports.shares) }
+    ensures narrow { IfOk result (λ m. All IsNarrow m.rows) }
+{
+    Ok(Matrix::new(1, 3, [1, 1, 1].to_vec(alloc)?))
 }
 
 /// The upper bounds: the demand of each customer, for each supplier.

@@ -32,8 +32,14 @@ fn one_customer_is_drawn(rt: HostRuntime) -> Result<(), Fail> {
         (0, 3, [2, 0, 1], [21, 12, 12]),
     ] {
         let program = transport(rt.alloc(), number, 1)?;
-        assert_eq!(rt; (program.n(), program.t(), program.r(), program.s()), (1, 3, 3, 1));
-        assert_eq!(rt; program.link().entries(), [1, 0, 0, 0, 1, 0, 0, 0, 1].as_slice());
+        assert_eq!(rt;
+            (program.n(), program.t(), program.r(), program.s()),
+            (1, 3, 3, 1)
+        );
+        assert_eq!(rt;
+            program.link().entries(),
+            [1, 0, 0, 0, 1, 0, 0, 0, 1].as_slice()
+        );
         assert_eq!(rt; program.brick().entries(), [1, 1, 1].as_slice());
         assert_eq!(rt; program.right_brick(1, 1), demand);
         assert_eq!(rt; program.lower_row(1), [0, 0, 0].as_slice());

@@ -1,4 +1,4 @@
-use Rattle.std.proofs.Common.{rules, arith, ◌∙◌, ◌*◌, ◌+◌, sym, ap, subst, All, IsTrue, length, pos}
+use Rattle.std.proofs.Common.{◌≡◌, ◌∙◌, ◌*◌, ◌+◌, sym, ap, subst, refl, All, IsTrue, length, pos, replicate}
 use Rattle.std.proofs.lemmas.List.Elements.{All-replicate}
 use Rattle.lattice_theory.specs.Vectors.{Vector, is_bounded}
 use Rattle.lattice_theory.specs.Matrices.{Matrix}
@@ -7,23 +7,26 @@ use Rattle.fold_program.proofs.PointLaws.{bounded_rows}
 use Rattle.fold_gen.proofs.TransportLaws.{length-uppers, program_made}
 use Rattle.fold_gen.proofs.programs.parts.Goals as goal
 
-pub new-requires-4 : goal.new-requires-4
-new-requires-4 c = ap length c.in_ok-upper.ensures.uppers ∙ length-uppers c.args.customers.now
+pub new-requires-2 : goal.new-requires-2
+new-requires-2 c = ap length c.in_ok-upper.ensures.uppers ∙ length-uppers c.args.customers.now
 
 pub returns-clause-limits : goal.returns-clause-limits
 returns-clause-limits c =
-    let a = c.new.ensures in
-    let b = c.new-3.ensures in
-    let d = c.in_ok-link.ensures in
-    let e = c.in_ok-lower.ensures in
+    let n = length c.args.customers.now in
+    let zeros : c.in_ok-lower.lower.items ≡ replicate (3 * n) (pos 0) = c.in_ok-lower.ensures.items_if_clones_equal (λ y e. e) in
+    let small : IsBoundedRow c.in_ok-lower.lower.items = subst IsBoundedRow (sym zeros) (All-replicate (λ a. IsTrue (is_bounded a)) (3 * n) (pos 0) refl) in
     record {
-      link = ?;
-      brick = ?;
-      lower = ?;
-      upper = subst (λ (m : Matrix). All IsBoundedRow m.rows) (sym c.new-4.ensures) (bounded_rows _ 3 c.in_ok-upper.upper.items c.in_ok-upper.ensures.bounded);
-      right = subst (λ (m : Matrix). All IsBoundedRow m.rows) (sym c.new-5.ensures) (bounded_rows _ _ c.in_ok-right.right.items c.in_ok-right.ensures.bounded);
+      link = c.in_ok-link.ensures.narrow;
+      brick = c.in_ok-brick.ensures.narrow;
+      lower = subst (λ (m : Matrix). All IsBoundedRow m.rows) (sym c.new.ensures) (bounded_rows n 3 c.in_ok-lower.lower.items small);
+      upper = subst (λ (m : Matrix). All IsBoundedRow m.rows) (sym c.new-2.ensures) (bounded_rows n 3 c.in_ok-upper.upper.items c.in_ok-upper.ensures.bounded);
+      right = subst (λ (m : Matrix). All IsBoundedRow m.rows) (sym c.new-3.ensures) (bounded_rows 1 (3 + n) c.in_ok-right.right.items c.in_ok-right.ensures.bounded);
       costs = c.in_ok-costs.ensures.numbers;
     }
 
 pub returns-clause-program : goal.returns-clause-program
-returns-clause-program c = ?
+returns-clause-program c =
+    let n = length c.args.customers.now in
+    let zeros : c.in_ok-lower.lower.items ≡ replicate (3 * n) (pos 0) = c.in_ok-lower.ensures.items_if_clones_equal (λ y e. e) in
+    rw (c.in_ok-link.ensures.links, c.in_ok-brick.ensures.shares, c.new.ensures, c.new-2.ensures, c.new-3.ensures, zeros, c.in_ok-upper.ensures.uppers, c.in_ok-costs.ensures.costs)
+    (program_made c.args.customers.now c.in_ok-right.right.items c.in_ok-right.ensures.rights)
