@@ -12,6 +12,7 @@ use Rattle.lattice_laws.proofs.Multiples.{between_times}
 use Rattle.lattice_laws.specs.VectorLists.{AreSized}
 use Rattle.piece_laws.specs.Points.{back}
 use Rattle.lattice_theory.specs.Lists.{all_zip}
+use Rattle.std.proofs.Math.Nat.{le-mul_of_pos_right}
 
 -- ---- numbers
 
@@ -24,11 +25,9 @@ left_less : (most m a b rest : ℕ) → 1 ≤ m → a ≤ most → b ≡ m * a +
     suc (min most rest) ≤ min most b
 left_less most m a b rest some low is high =
     let next : suc m * a ≡ m * a + a = grind arith in
-    let each : a ≤ m * a = at_least m a some in
-    omega (arith, low, is, high, next, each)
-  where
-    at_least : (m a : ℕ) → 1 ≤ m → a ≤ m * a
-    at_least m a some = grind arith
+    let each : a ≤ a * m = le-mul_of_pos_right a some in
+    let turned : a * m ≡ m * a = grind arith in
+    omega (arith, low, is, high, next, each, turned)
 
 entry_less : (most m : ℕ) (a b : ℤ) → 1 ≤ m → unsigned_abs a ≤ most → is_between a b ≡ true →
     is_between (pos m *ℤ a) b ≡ true → is_between (pos (suc m) *ℤ a) b ≡ false →

@@ -3,7 +3,7 @@
 use Rattle.std.proofs.Common.{◌≡◌, ℕ, zero, suc, ◌+◌, ◌*◌, ◌<◌, ◌≤◌, pos, ◌+ℤ◌, ◌-ℤ◌, ◌≤ℤ◌, List, [], ◌∷◌, length, refl, ap, arith, sym, ◌∙◌, inl, inr, subst}
 use Rattle.std.proofs.lemmas.Int.{ints}
 use Rattle.std.proofs.lemmas.Bool.{cases_lt}
-use Rattle.std.proofs.Math.Nat.{mul-le-mul_left}
+use Rattle.std.proofs.Math.Nat.{mul-le-mul_left, mul-pos}
 use Rattle.fold_theory.specs.declared.Phase.{Phase}
 use Rattle.lattice_theory.specs.Vectors.{Vector, ◌⊑◌, sub, scale}
 use Rattle.lattice_laws.proofs.Products.{length-rows}
@@ -81,7 +81,7 @@ module _ (p : Program) (phase : Phase) (program : IsProgram p) (x : Bricks) (at_
                 arith,
                 nearer h x y u.parts,
                 weight-times m q.move,
-                product_some m (weight q.move) u.some q.nonzero,
+                mul-pos u.some q.nonzero,
               );
           less =
               omega (
@@ -92,9 +92,6 @@ module _ (p : Program) (phase : Phase) (program : IsProgram p) (x : Bricks) (at_
               );
           costs = omega (arith, ints, ends.costs, twice);
         }
-      where
-        product_some : (m k : ℕ) → 1 ≤ m → 0 < k → 0 < m * k
-        product_some m k a b = grind arith
 
   nearer_point : (y : Bricks) → IsStart p phase y → 0 < weight (way x y) → Nearer y
   nearer_point y at_y some =

@@ -13,6 +13,7 @@ use Rattle.fold_theory.specs.Programs.{Brick, Bricks, AreWithin}
 use Rattle.lattice_laws.specs.VectorLists.{weight}
 use Rattle.piece_laws.specs.Points.{way}
 use Rattle.count_laws.proofs.Clipped.{times}
+use Rattle.std.proofs.Math.Nat.{le-mul_of_pos_right}
 
 -- the widths of the bounds
 abbrev widths : Vector → Vector → List ℕ
@@ -22,12 +23,9 @@ widths lower upper = zip_with (λ l u. unsigned_abs (u -ℤ l)) lower upper
 entry_fits : (m : ℕ) (l u x y k : ℤ) → l ≤ℤ x → l ≤ℤ y → x ≤ℤ u → y ≤ℤ u →
     is_between (pos m *ℤ k) (y -ℤ x) ≡ true → 0 < unsigned_abs k → m ≤ unsigned_abs (u -ℤ l)
 entry_fits m l u x y k lx ly ux uy part some =
-    let all : m ≤ m * unsigned_abs k = at_least m (unsigned_abs k) some in
+    let all : m ≤ m * unsigned_abs k = le-mul_of_pos_right m some in
     let inside : unsigned_abs (y -ℤ x) ≤ unsigned_abs (u -ℤ l) = omega (arith, ints, lx, ly, ux, uy) in
     omega (arith, all, inside, unsigned_abs-mul (pos m) k, abs_split (y -ℤ x) (pos m *ℤ k) part)
-  where
-    at_least : (m k : ℕ) → 0 < k → m ≤ m * k
-    at_least m k some = grind arith
 
 vector_fits : (m : ℕ) (lower upper x y d : Vector) → AllZip ◌≤ℤ◌ lower x → AllZip ◌≤ℤ◌ x upper → AllZip ◌≤ℤ◌ lower y →
     AllZip ◌≤ℤ◌ y upper → scale (pos m) d ⊑ sub y x → 0 < norm1 d → m ≤ greatest (widths lower upper)

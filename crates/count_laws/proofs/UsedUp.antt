@@ -21,6 +21,7 @@ use Rattle.piece_laws.proofs.Points.{walk_end_is}
 use Rattle.count_laws.proofs.Clipped.{IsNarrow, clipped, clipped_no_more, clipped_less, times, all_clipped, all_no_more, all_less, all_below, all_below_test}
 use Rattle.count_laws.proofs.Times.{times_once, weight-times}
 use Rattle.lattice_laws.proofs.Members.{at_most_greatest}
+use Rattle.std.proofs.Math.Nat.{le-mul_of_pos_right}
 
 -- ---- the greatest number that passes a test
 
@@ -88,9 +89,6 @@ back_swap (v ∷ y) [] (d ∷ h) = refl
 back_swap (v ∷ y) (u ∷ x) [] = refl
 back_swap (v ∷ y) (u ∷ x) (d ∷ h) = λ i. sub_swap v d u i ∷ back_swap y x h i
 
-no_less : (n k : ℕ) → 0 < k → n ≤ n * k
-no_less n k some = grind arith
-
 -- what is used up of a list of vectors with one more vector, by a multiple of parts of them
 pub record UsesUp (most : ℕ) (h ds : List Vector) (e z : Vector) : Type 0 where
   pub m : ℕ
@@ -121,7 +119,7 @@ module _ (most : ℕ) (h ds : List Vector) (e z : Vector) (narrow : AllByRecursi
         let n = suc (weight ds) in
         let q = and_true (all_zip conforms (times n h) ds) (conforms (scale (pos n) e) z) fit in
         let low = weight_below (times n h) ds (all_below (times n h) ds q.0) in
-        absurd (omega (arith, low, weight-times n h, no_less n (weight h) some))
+        absurd (omega (arith, low, weight-times n h, le-mul_of_pos_right n some))
   ]
 
   pub uses_up : UsesUp most h ds e z

@@ -92,7 +92,7 @@ module _ (m : Matrix) (basis : List Vector) where
 -- ---- what the criterion says
 
 -- the numbers below are among the numbers
-numbered : (a n j : ℕ) → a ≤ j → j < a + n → Contains (numbers_from a n) j
+pub numbered : (a n j : ℕ) → a ≤ j → j < a + n → Contains (numbers_from a n) j
 numbered a zero j from to = absurd (omega arith)
 numbered a (suc n) j from to = elim (cases_eq a j) [
   | inl e ↦ subst (Contains (numbers_from a (suc n))) e (contains_head a (numbers_from (suc a) n))
@@ -100,7 +100,7 @@ numbered a (suc n) j from to = elim (cases_eq a j) [
 ]
 
 -- what the criterion tests of each member
-signed_element : (m : Matrix) (z : Vector) → is_signed_element m z ≡ true → IsNonzeroElement m z
+pub signed_element : (m : Matrix) (z : Vector) → is_signed_element m z ≡ true → IsNonzeroElement m z
 signed_element m z h =
     let v = take m.cols z in
     let p = and_true (leads_positive z && nat_eq (length z) (width m)) (same (drop m.cols z) (product m v)) h in

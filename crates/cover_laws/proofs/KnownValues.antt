@@ -1,4 +1,6 @@
 -- Members of lattices and Graver bases at matrices worked by hand: the rows (1 1) and (1 2).
+use Rattle.std.proofs.Common.{inl, arith}
+use Rattle.cover_laws.specs.ConformalSums.{ConformalSum}
 use Rattle.std.specs.Prelude.{◌≡◌, pos, neg_ℤ, ◌∷◌, true, false, refl}
 use Rattle.lattice_theory.specs.Vectors.{conforms, is_zero}
 use Rattle.lattice_theory.specs.Matrices.{Matrix, product}
@@ -42,3 +44,20 @@ zero_is_none h = absurd (cc (h.nonzero))
 
 pub wrong_image_is_none : IsNonzeroElement pair (three (pos 1) (minus 1) (pos 1)) → ⊥
 wrong_image_is_none h = absurd (cc (h.member.image))
+
+-- ---- conformal sums
+
+-- (1 2 3) is a sum of the unit elements (1 0 1) and (0 1 1) of the lattice of the row (1 1), each conformally below it
+pub a_conformal_sum : ConformalSum 3 (three (pos 0) (pos 1) (pos 1) ∷ three (pos 1) (pos 0) (pos 1) ∷ []) (three (pos 1) (pos 2) (pos 3))
+a_conformal_sum = (
+  record {
+    terms = three (pos 1) (pos 0) (pos 1) ∷ three (pos 0) (pos 1) (pos 1) ∷ three (pos 0) (pos 1) (pos 1) ∷ [];
+    signed = ((refl, inl (1, omega arith, refl)), ((refl, inl (0, omega arith, refl)), ((refl, inl (0, omega arith, refl)), tt)));
+    sum = refl;
+  },
+  (refl, (refl, (refl, tt))),
+)
+
+-- (1 -1 0) is the difference of the two, of which neither is below it
+pub a_difference_is_not_conformal : conforms (three (pos 1) (pos 0) (pos 1)) (three (pos 1) (minus 1) (pos 0)) ≡ false
+a_difference_is_not_conformal = refl

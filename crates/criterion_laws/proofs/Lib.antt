@@ -2,7 +2,6 @@ pub mod Tests
 pub mod Units
 pub mod Clashes
 pub mod Turned
-pub mod Reductions
 pub mod Settled
 pub mod Cuts
 pub mod Prefixes

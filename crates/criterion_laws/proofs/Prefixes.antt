@@ -17,27 +17,12 @@ use Rattle.cover_laws.specs.Elements.{IsNonzeroElement}
 use Rattle.cover_laws.proofs.CompleteLists.{complete_covers}
 use Rattle.criterion_laws.specs.Prefixes.{clashes_settle, is_complete_by_prefixes}
 use Rattle.criterion_laws.proofs.Tests.{and_of, list_all_of, listed_member, member_listed}
-use Rattle.criterion_laws.proofs.Reductions.{IsCovering, covering_reduces}
+use Rattle.cover_laws.proofs.Coverings.{IsCovering, covering_complete}
 use Rattle.criterion_laws.proofs.Settled.{unit_member, covering_settles}
 use Rattle.criterion_laws.proofs.Cuts.{settled_covers}
+use Rattle.cover_laws.proofs.CompleteLists.{signed_element, numbered}
 
 -- ---- what the tests of single members say
-
--- what both criteria test of each member
-pub signed_element : (m : Matrix) (z : Vector) → is_signed_element m z ≡ true → IsNonzeroElement m z
-signed_element m z signed =
-    let v = take m.cols z in
-    let width = m.cols + length m.rows in
-    let p = and_true (leads_positive z && nat_eq (length z) width) (same (drop m.cols z) (product m v)) signed in
-    let q = and_true (leads_positive z) (nat_eq (length z) width) p.0 in
-    let inside : InLattice m z = record {
-      size = sized (length z) width q.1;
-      image = same_true (drop m.cols z) (product m v) p.1;
-    } in
-    record { member = inside; nonzero = first_nonzero m z inside (leads_nonzero z q.0) }
-  where
-    sized : (a b : ℕ) → nat_eq a b ≡ true → a ≡ b
-    sized a b equal = grind (arith, nat_tests)
 
 signed_leads : (m : Matrix) (z : Vector) → is_signed_element m z ≡ true → leads_positive z ≡ true
 signed_leads m z signed =
@@ -51,13 +36,6 @@ number_below a zero j (k, low, e) = absurd (omega arith)
 number_below a (suc n) j c = elim (contains_cases a (numbers_from (suc a) n) j c) [
   | inl same ↦ omega arith
   | inr d ↦ omega (arith, number_below (suc a) n j d)
-]
-
-numbered : (a n j : ℕ) → a ≤ j → j < a + n → Contains (numbers_from a n) j
-numbered a zero j from to = absurd (omega arith)
-numbered a (suc n) j from to = elim (cases_eq a j) [
-  | inl e ↦ subst (Contains (numbers_from a (suc n))) e (contains_head a (numbers_from (suc a) n))
-  | inr other ↦ contains_tail a (numbers_from (suc a) n) j (numbered (suc a) n j (omega arith) (omega arith))
 ]
 
 -- ---- each criterion says that the list covers the lattice
@@ -81,25 +59,7 @@ module _ (m : Matrix) (basis : List Vector) where
   elements_of : signed ≡ true → (z : Vector) → Contains basis z → IsNonzeroElement m z
   elements_of each z c = signed_element m z (list_all_at (is_signed_element m) basis z each c)
 
-  -- a list of elements that covers passes the rest of Pottier's criterion
-  covering_complete : IsCovering m basis → signed ≡ true → rising ≡ true → is_complete_for m basis ≡ true
-  covering_complete is each in_order =
-      let units = list_all unit_reduces (numbers_from 0 m.cols) in
-      let pairs = list_all (λ a. list_all (pair_reduces a) basis) basis in
-      and_of (signed && rising && units) pairs
-      (and_of (signed && rising) units (and_of signed rising each in_order)
-      (list_all_of unit_reduces (numbers_from 0 m.cols) (λ j c.
-      covering_reduces m basis is (element m (unit_vector m.cols j))
-      (element_in m (unit_vector m.cols j) (length-unit m.cols j)))))
-      (list_all_of (λ a. list_all (pair_reduces a) basis) basis (λ a c.
-      list_all_of (pair_reduces a) basis (λ b d.
-      and_of (reduces_to_zero basis (add a b)) (reduces_to_zero basis (sub a b))
-      (covering_reduces m basis is (add a b)
-      (closed_add m a b (is.elements a c).member (is.elements b d).member))
-      (covering_reduces m basis is (sub a b)
-      (closed_sub m b a (is.elements b d).member (is.elements a c).member)))))
-
-  -- and the rest of the criterion by prefixes
+  -- a list of elements that covers passes the rest of the criterion by prefixes
   covering_prefixes : IsCovering m basis → signed ≡ true → rising ≡ true → is_complete_by_prefixes m basis ≡ true
   covering_prefixes is each in_order =
       let units = list_all is_unit_listed (numbers_from 0 m.cols) in
@@ -127,7 +87,7 @@ module _ (m : Matrix) (basis : List Vector) where
       let second = and_true signed rising before.0 in
       let listed = λ (j : ℕ) (low : j < m.cols). listed_member basis (element m (unit_vector m.cols j))
       (list_all_at is_unit_listed (numbers_from 0 m.cols) j before.1 (numbered 0 m.cols j (omega arith) (omega arith))) in
-      covering_complete (record {
+      covering_complete m basis (record {
         elements = elements_of second.0;
         covers = settled_covers m basis (elements_of second.0) listed first.1;
       }) second.0 second.1

@@ -13,7 +13,7 @@ use Rattle.lattice_laws.proofs.UnitVectors.{length-unit}
 use Rattle.criterion_laws.specs.Prefixes.{first_clash, is_below_in, clash_settles, pair_settles, clashes_settle}
 use Rattle.criterion_laws.proofs.Tests.{and_of, nat_lt_of, or_left, or_right, list_all_of, list_any_of}
 use Rattle.criterion_laws.proofs.Clashes.{clash_agrees, agree-take}
-use Rattle.criterion_laws.proofs.Reductions.{IsCovering, signed_in, signed_some}
+use Rattle.cover_laws.proofs.Coverings.{IsCovering, signed_in, signed_some}
 use Rattle.criterion_laws.proofs.Units.{unit_leads, unit_norm}
 
 module _ (m : Matrix) (basis : List Vector) (is : IsCovering m basis) where

@@ -1,42 +1,23 @@
 -- Tests of lists that pass, and what they say of the members.
+pub use Rattle.std.proofs.lemmas.Bool.{and_from as and_of, or_left, or_right}
+pub use Rattle.lattice_laws.proofs.Tests.{nat_eq_of, lt_true as nat_lt_true}
+pub use Rattle.lattice_laws.proofs.Members.{list_all_of}
 use Rattle.std.proofs.Common.{◌≡◌, ℕ, ◌<◌, nat_eq, nat_lt, Bool, true, false, ◌&&◌, ◌||◌, List, [], ◌∷◌, refl, ap, arith, ◌∙◌, Contains, ◌⊎◌, inl, inr, subst}
 use Rattle.std.proofs.lemmas.Bool.Decides.{nat_tests}
 use Rattle.std.specs.List.{list_all, list_any}
 use Rattle.lattice_theory.specs.Vectors.{Vector, same, is_listed}
 use Rattle.lattice_laws.proofs.Tests.{same_true, same_refl}
 use Rattle.lattice_laws.proofs.Members.{contains_cases, contains_head, contains_tail}
-
-pub and_of : (a b : Bool) → a ≡ true → b ≡ true → (a && b) ≡ true
-and_of a b first second = ap (λ t. t && b) first ∙ second
-
-pub or_left : (a b : Bool) → a ≡ true → (a || b) ≡ true
-or_left a b first = ap (λ t. t || b) first
-
-pub or_right : (a b : Bool) → b ≡ true → (a || b) ≡ true
-or_right true b second = refl
-or_right false b second = second
+use Rattle.std.proofs.lemmas.Bool.{or_left, or_right}
 
 pub or_cases : (a b : Bool) → (a || b) ≡ true → (a ≡ true) ⊎ (b ≡ true)
 or_cases true b either = inl refl
 or_cases false b either = inr either
 
-pub nat_eq_of : (a b : ℕ) → a ≡ b → nat_eq a b ≡ true
-nat_eq_of a b equal = grind (arith, nat_tests)
-
 pub nat_lt_of : (a b : ℕ) → a < b → nat_lt a b ≡ true
 nat_lt_of a b less = grind (arith, nat_tests)
 
-pub nat_lt_true : (a b : ℕ) → nat_lt a b ≡ true → a < b
-nat_lt_true a b less = grind (arith, nat_tests)
-
 module _ {X : Type 0} (test : X → Bool) where
-  -- every member passes
-  pub list_all_of : (xs : List X) → ((x : X) → Contains xs x → test x ≡ true) → list_all test xs ≡ true
-  list_all_of [] passes = refl
-  list_all_of (x ∷ xs) passes =
-      ap (λ t. t && list_all test xs) (passes x (contains_head x xs))
-      ∙ list_all_of xs (λ y c. passes y (contains_tail x xs y c))
-
   -- some member passes
   pub list_any_of : (xs : List X) (x : X) → Contains xs x → test x ≡ true → list_any test xs ≡ true
   list_any_of [] x (k, low, e) passes = absurd (omega arith)

@@ -1,13 +1,14 @@
 -- The elements of a lattice: they are known by their first parts, and the lattice is closed; one more row.
-use Rattle.std.proofs.Common.{◌≡◌, ℕ, ◌+◌, false, List, ◌++◌, length, map, take, ap, arith, sym, ◌∙◌, inl, inr, subst, length-append, length-take, append_assoc}
+use Rattle.std.proofs.Common.{◌≡◌, ℕ, ◌+◌, false, List, ◌++◌, length, map, take, ap, arith, sym, ◌∙◌, inl, inr, subst, length-append, length-take, append_assoc, zero, suc, pos}
 use Rattle.std.proofs.lemmas.List.{take-append-drop, take_at, drop_at, map-append, take-take}
-use Rattle.lattice_theory.specs.Vectors.{Vector, ◌⊑◌, is_zero, add, sub, opposite, zeros, dot}
+use Rattle.lattice_theory.specs.Vectors.{Vector, ◌⊑◌, is_zero, add, sub, opposite, zeros, dot, scale}
 use Rattle.lattice_theory.specs.Matrices.{Matrix, product, element}
 use Rattle.lattice_theory.specs.Lattices.{InLattice, IsMinimal}
 use Rattle.lattice_theory.specs.BasisLimits.{IsBasisElement}
 use Rattle.lattice_laws.proofs.Tests.{true_or_false, not_both}
 use Rattle.lattice_laws.proofs.Conformal.{conforms-take, conforms-opposite, opposite-opposite, opposite_nonzero, opposite-append, length-opposite, length-add, sub-opposite, nonzero_by_take, leads-append}
-use Rattle.lattice_laws.proofs.Products.{rows-add, rows-opposite, rows-zeros, length-rows, add-append, zeros_is, zero-zeros, zeros-append}
+use Rattle.lattice_laws.proofs.Products.{rows-add, rows-opposite, rows-zeros, length-rows, add-append, zeros_is, zero-zeros, zeros-append, length-zeros}
+use Rattle.lattice_laws.proofs.Multiples.{scale_zero, scale_suc}
 
 module _ (m : Matrix) where
   pub element-add : (u v : Vector) → length u ≡ length v → element m (add u v) ≡ add (element m u) (element m v)
@@ -71,6 +72,19 @@ module _ (m : Matrix) where
         is_element z h ∙ ap (element m) v ∙ ap (λ t. zeros m.cols ++ t) (rows-zeros m.rows m.cols) ∙ zeros-append m.cols (length m.rows) in
         absurd (not_both (is_zero z) (ap is_zero all ∙ zero-zeros (m.cols + length m.rows)) n)
   ]
+
+-- ---- zero and multiples are elements
+
+pub closed_zeros : (m : Matrix) → InLattice m (zeros (m.cols + length m.rows))
+closed_zeros m =
+    subst (InLattice m)
+    (ap (λ t. zeros m.cols ++ t) (rows-zeros m.rows m.cols) ∙ zeros-append m.cols (length m.rows))
+    (element_in m (zeros m.cols) (length-zeros m.cols))
+
+pub closed_times : (m : Matrix) (k : ℕ) (z : Vector) → InLattice m z → InLattice m (scale (pos k) z)
+closed_times m zero z inside = subst (InLattice m) (ap zeros (sym inside.size) ∙ sym (scale_zero z)) (closed_zeros m)
+closed_times m (suc k) z inside =
+    subst (InLattice m) (sym (scale_suc k z)) (closed_add m z (scale (pos k) z) inside (closed_times m k z inside))
 
 -- ---- more rows
 

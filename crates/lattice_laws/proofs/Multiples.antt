@@ -1,11 +1,11 @@
 -- Multiples of vectors: as sums, of sums, their norms and products, and the greatest one below a vector.
-use Rattle.std.proofs.Common.{◌≡◌, ℕ, zero, suc, ◌*◌, ◌≤◌, ◌/◌, ℤ, pos, negsuc, ◌+ℤ◌, ◌*ℤ◌, neg_ℤ, unsigned_abs, true, ◌&&◌, min, fold, List, ◌∷◌, ◌++◌, length, map, refl, ap, arith, sym, ◌∙◌, []}
+use Rattle.std.proofs.Common.{◌≡◌, ℕ, zero, suc, ◌*◌, ◌≤◌, ◌/◌, ℤ, pos, negsuc, ◌+ℤ◌, ◌*ℤ◌, neg_ℤ, unsigned_abs, true, ◌&&◌, min, fold, List, ◌∷◌, ◌++◌, length, map, refl, ap, arith, sym, ◌∙◌, [], false}
 use Rattle.std.specs.List.{AllByRecursion}
 use Rattle.std.proofs.lemmas.Int.{ints, unsigned_abs-mul}
 use Rattle.std.proofs.lemmas.Bool.Decides.{nat_tests}
-use Rattle.std.proofs.Math.Nat.{le-div_iff_mul-le}
+use Rattle.std.proofs.Math.Nat.{le-div_iff_mul-le, mul-le-mul_right}
 use Rattle.std.proofs.Math.IntN.{zero-*ℤ, *ℤ-zero, suc_ℤ-*ℤ, *ℤ_comm, *ℤ-negsuc}
-use Rattle.lattice_theory.specs.Vectors.{Vector, ◌⊑◌, conforms, is_between, norm1, add, scale, opposite, zeros, dot}
+use Rattle.lattice_theory.specs.Vectors.{Vector, ◌⊑◌, conforms, is_between, norm1, add, scale, opposite, zeros, dot, is_zero}
 use Rattle.lattice_theory.specs.Lattices.{multiples, least_of, greatest_multiple}
 use Rattle.lattice_laws.proofs.Tests.{and_true}
 use Rattle.lattice_laws.proofs.Products.{times_sum, times_opposite}
@@ -59,6 +59,41 @@ least_each (m ∷ xs) = let r = least_from m xs in (r.0, r.1)
 pub greatest_below : (e v : Vector) → e ⊑ v → scale (pos (greatest_multiple e v)) e ⊑ v
 greatest_below e v h = scale_below (greatest_multiple e v) e v h (least_each (multiples e v))
 
+divides : (x y : ℕ) → suc x ≤ y → 1 ≤ y / suc x
+divides x y h = grind (arith, le-div_iff_mul-le {k = suc x} {x = 1} {y = y})
+
+larger : (a b : ℤ) → is_between a b ≡ true → unsigned_abs a ≤ unsigned_abs b
+larger a b between = grind (arith, nat_tests)
+
+-- each entry that is not 0 fits at least once
+each_fits : (e v : Vector) → e ⊑ v → AllByRecursion (λ x. 1 ≤ x) (multiples e v)
+each_fits [] v below = tt
+each_fits (a ∷ e) [] below = absurd (cc)
+each_fits (pos zero ∷ e) (b ∷ v) below = each_fits e v (and_true (is_between (pos zero) b) (conforms e v) below).1
+each_fits (pos (suc n) ∷ e) (b ∷ v) below =
+    let p = and_true (is_between (pos (suc n)) b) (conforms e v) below in
+    (divides n (unsigned_abs b) (larger (pos (suc n)) b p.0), each_fits e v p.1)
+each_fits (negsuc n ∷ e) (b ∷ v) below =
+    let p = and_true (is_between (negsuc n) b) (conforms e v) below in
+    (divides n (unsigned_abs b) (larger (negsuc n) b p.0), each_fits e v p.1)
+
+least_fits : (m : ℕ) (xs : List ℕ) → 1 ≤ m → AllByRecursion (λ x. 1 ≤ x) xs → 1 ≤ fold min m xs
+least_fits m [] first others = first
+least_fits m (x ∷ xs) first others = least_fits (min m x) xs (omega (arith, first, others.0)) others.1
+
+-- the greatest multiple found is at least 1
+pub multiple_some : (e v : Vector) → is_zero e ≡ false → e ⊑ v → 1 ≤ greatest_multiple e v
+multiple_some [] v nonzero below = absurd (cc)
+multiple_some (a ∷ e) [] nonzero below = absurd (cc)
+multiple_some (pos zero ∷ e) (b ∷ v) nonzero below =
+    multiple_some e v nonzero (and_true (is_between (pos zero) b) (conforms e v) below).1
+multiple_some (pos (suc n) ∷ e) (b ∷ v) nonzero below =
+    let all = each_fits (pos (suc n) ∷ e) (b ∷ v) below in
+    least_fits (unsigned_abs b / suc n) (multiples e v) all.0 all.1
+multiple_some (negsuc n ∷ e) (b ∷ v) nonzero below =
+    let all = each_fits (negsuc n ∷ e) (b ∷ v) below in
+    least_fits (unsigned_abs b / suc n) (multiples e v) all.0 all.1
+
 -- ---- multiples as sums
 
 pub scale_zero : (e : Vector) → scale (pos 0) e ≡ zeros (length e)
@@ -71,11 +106,20 @@ scale_suc m (a ∷ e) =
     let here : pos (suc m) *ℤ a ≡ a +ℤ pos m *ℤ a = omega (arith, ints, suc_ℤ-*ℤ (pos m) a) in
     λ i. here i ∷ scale_suc m e i
 
+-- the norm of a multiple
+pub norm-scale-abs : (x : ℤ) (g : Vector) → norm1 (scale x g) ≡ unsigned_abs x * norm1 g
+norm-scale-abs x [] = omega arith
+norm-scale-abs x (y ∷ g) =
+    omega (
+      arith,
+      norm1-cons (x *ℤ y) (scale x g),
+      ap (λ k. unsigned_abs x * k) (norm1-cons y g),
+      unsigned_abs-mul x y,
+      norm-scale-abs x g,
+    )
+
 pub norm-scale : (m : ℕ) (e : Vector) → norm1 (scale (pos m) e) ≡ m * norm1 e
-norm-scale m [] = omega arith
-norm-scale m (a ∷ e) =
-    let here : unsigned_abs (pos m *ℤ a) ≡ m * unsigned_abs a = unsigned_abs-mul (pos m) a in
-    omega (arith, norm1-cons (pos m *ℤ a) (scale (pos m) e), ap (λ k. m * k) (norm1-cons a e), here, norm-scale m e)
+norm-scale m e = norm-scale-abs (pos m) e
 
 negsuc_times : (k : ℕ) (a : ℤ) → negsuc k *ℤ a ≡ neg_ℤ (pos (suc k) *ℤ a)
 negsuc_times k a = *ℤ_comm (negsuc k) a ∙ *ℤ-negsuc a k ∙ ap neg_ℤ (*ℤ_comm a (pos (suc k)))
@@ -173,26 +217,21 @@ down_turned : (m : ℕ) (x : ℤ) → down (negsuc m *ℤ x) ≡ suc m * up x
 down_turned m (pos k) = grind (arith, ints)
 down_turned m (negsuc k) = grind (arith, ints)
 
-le_times : (m n k : ℕ) → m ≤ n → m * k ≤ n * k
-le_times zero n k h = omega arith
-le_times (suc m) zero k h = absurd (omega arith)
-le_times (suc m) (suc n) k h = omega (arith, le_times m n k (omega arith))
-
 -- a part of a number times another one
 part_times : (a c x : ℤ) → is_between a c ≡ true → is_between (a *ℤ x) (c *ℤ x) ≡ true
 part_times a c x h = between_of (a *ℤ x) (c *ℤ x) (by a c (part_of a c h))
   where
     by : (a c : ℤ) → IsPart a c → IsPart (a *ℤ x) (c *ℤ x)
     by (pos m) (pos n) p = record {
-      ups = omega (arith, up_times m x, up_times n x, le_times m n (up x) p.ups);
-      downs = omega (arith, down_times m x, down_times n x, le_times m n (down x) p.ups);
+      ups = omega (arith, up_times m x, up_times n x, mul-le-mul_right (up x) p.ups);
+      downs = omega (arith, down_times m x, down_times n x, mul-le-mul_right (down x) p.ups);
     }
     by (pos zero) (negsuc n) p = record { ups = omega (arith, up_times 0 x); downs = omega (arith, down_times 0 x) }
     by (pos (suc m)) (negsuc n) p = absurd (omega (arith, p.ups))
     by (negsuc m) (pos n) p = absurd (omega (arith, p.downs))
     by (negsuc m) (negsuc n) p = record {
-      ups = omega (arith, up_turned m x, up_turned n x, le_times (suc m) (suc n) (down x) p.downs);
-      downs = omega (arith, down_turned m x, down_turned n x, le_times (suc m) (suc n) (up x) p.downs);
+      ups = omega (arith, up_turned m x, up_turned n x, mul-le-mul_right (down x) p.downs);
+      downs = omega (arith, down_turned m x, down_turned n x, mul-le-mul_right (up x) p.downs);
     }
 
 -- parts of the number give parts of the multiple
@@ -200,15 +239,3 @@ pub scale-below : (a c : ℤ) (g : Vector) → is_between a c ≡ true → scale
 scale-below a c [] h = refl
 scale-below a c (x ∷ g) h =
     ap (λ t. t && conforms (scale a g) (scale c g)) (part_times a c x h) ∙ scale-below a c g h
-
--- the norm of a multiple
-pub norm-scale-abs : (x : ℤ) (g : Vector) → norm1 (scale x g) ≡ unsigned_abs x * norm1 g
-norm-scale-abs x [] = omega arith
-norm-scale-abs x (y ∷ g) =
-    omega (
-      arith,
-      norm1-cons (x *ℤ y) (scale x g),
-      ap (λ k. unsigned_abs x * k) (norm1-cons y g),
-      unsigned_abs-mul x y,
-      norm-scale-abs x g,
-    )

@@ -17,6 +17,7 @@ use Rattle.cover_laws.specs.ConformalSums.{AreTerms}
 use Rattle.lattice_laws.proofs.VectorLists.{AreAgreeing, agree_all, all_below, agreeing_weight, below_agree, length-sum}
 use Rattle.lattice_laws.proofs.Agreement.{parts_sum}
 use Rattle.lattice_theory.specs.Lists.{zip_with}
+use Rattle.std.proofs.Math.Nat.{le-mul_of_pos_right}
 
 -- the generators, each as often as the count says
 abbrev pub terms : List Vector → Vector → List Vector
@@ -252,11 +253,8 @@ module _ (t : ℕ) (gens : List Vector) (sized : AreSized t gens) where
         term_weights gens a nonzero (omega (arith, length_below a c h, w.size)),
       )
     where
-      more_each : (m k : ℕ) → 0 < k → m ≤ m * k
-      more_each m k h = grind arith
-
       norm-times : (x : ℤ) (g : Vector) → 0 < norm1 g → unsigned_abs x ≤ norm1 (scale x g)
-      norm-times x g h = omega (arith, norm-scale-abs x g, more_each (unsigned_abs x) (norm1 g) h)
+      norm-times x g h = omega (arith, norm-scale-abs x g, le-mul_of_pos_right (unsigned_abs x) h)
 
       term_weights : (gs : List Vector) (b : Vector) → AllByRecursion (λ g. 0 < norm1 g) gs → length b ≡ length gs →
           norm1 b ≤ weight (terms gs b)

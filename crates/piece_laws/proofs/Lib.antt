@@ -18,3 +18,4 @@ pub mod Starts
 pub mod Least
 pub mod Pieces
 pub mod KnownPrograms
+mod KnownValues
