@@ -1,7 +1,10 @@
-mod MatrixLaws
+pub mod MatrixLaws
 mod TokenLaws
 mod NumberLaws
-mod ReadingLaws
-mod PrintingLaws
+pub mod WordLaws
+pub mod RepeatLaws
+pub mod ShapeLaws
+pub mod PrintingLaws
+pub mod PrintedLaws
 mod RoundTrip
 mod KnownValues

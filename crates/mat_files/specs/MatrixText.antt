@@ -1,58 +1,48 @@
 -- Matrix files: what is accepted, the first fault of what is not, and the text of a matrix.
-use Rattle.std.specs.Prelude.{◌≡◌, ℕ, zero, suc, ◌*◌, ◌^◌, ◌≤◌, ℤ, pos, unsigned_abs, int_le, nat_eq, nat_le, ◌&&◌, List, [], ◌∷◌, ◌++◌, All, map, length, flat_map, cond, Some, None, Result, Ok, Err}
+use Rattle.std.specs.Prelude.{◌≡◌, ℕ, ◌≤◌, unsigned_abs, List, [], ◌∷◌, ◌++◌, All, map, length, flat_map, Result, Ok, Err}
 use Rattle.std.specs.Fmt.{decimal, signed_decimal}
 use Rattle.std.specs.List.{join_with_byte}
-use Rattle.std.specs.Cmp.Lexicographic.{pointwise}
 use Rattle.lattice_theory.specs.Vectors.{Vector}
-use Rattle.lattice_theory.specs.Matrices.{Matrix, rows_of}
+use Rattle.lattice_theory.specs.Matrices.{Matrix}
 use Rattle.mat_files.specs.declared.shape.Shape.{Shape}
 use Rattle.mat_files.specs.declared.fault.MatFault.{MatFault}
 use Rattle.mat_files.specs.declared.fault.MatFault.TheVariants as fault
-use Rattle.mat_files.specs.Tokens.{Token, tokens, number_of, and_then}
+use Rattle.mat_files.specs.declared.fault.FaultKind.{FaultKind}
+use Rattle.mat_files.specs.declared.fault.FaultKind.TheVariants as kind
+use Rattle.mat_files.specs.declared.fault.TokenFault.{TokenFault}
+use Rattle.mat_files.specs.Tokens.{Left, and_then}
+use Rattle.mat_files.specs.Reading.{Read, next_size, next_matrix, only}
 
--- the number that the token spells, at most so large in absolute value
-abbrev pub number_at : ℕ → Token → Result ℤ MatFault
-number_at largest t =
-    cond (pointwise nat_eq t.text (42 ∷ [])) (Err (fault.NoBound t.at))
-    (elim (number_of t.text) [
-      | None ↦ Err (fault.NotNumber t.at)
-      | Some a ↦ cond (nat_le (unsigned_abs a) largest) (Ok a) (Err (fault.TooBig t.at))
-    ])
+-- the fault of a matrix file; it has no fixed words, and its sizes have faults of their own
+abbrev pub mat_fault_of : ℕ → FaultKind → MatFault
+mat_fault_of at kind.Word = fault.NotNumber at
+mat_fault_of at kind.NotNumber = fault.NotNumber at
+mat_fault_of at kind.NoBound = fault.NoBound at
+mat_fault_of at kind.TooBig = fault.TooBig at
+mat_fault_of at kind.TooMany = fault.TooBig at
+mat_fault_of at (kind.Size got from to) = fault.Shape at got from to
+mat_fault_of at kind.EndsEarly = fault.EndsEarly at
+mat_fault_of at kind.Extra = fault.Extra at
+mat_fault_of at kind.Memory = fault.Memory
 
--- the number of rows or columns that the token spells, in this range
-abbrev pub size_at : ℕ → ℕ → Token → Result ℕ MatFault
-size_at from to t =
-    and_then (number_at (2 ^ 62) t) (λ a.
-    cond (int_le (pos from) a && int_le a (pos to)) (Ok (unsigned_abs a)) (Err (fault.Shape t.at a from to)))
+abbrev pub mat_fault : TokenFault → MatFault
+mat_fault f = mat_fault_of f.at f.kind
 
--- what the first token gives, and the tokens after it
-abbrev pub first_by : {A : Type 0} → (Token → Result A MatFault) → ℕ → List Token → Result (A × List Token) MatFault
-first_by read end [] = Err (fault.EndsEarly end)
-first_by read end (t ∷ ts) = and_then (read t) (λ a. Ok (a, ts))
+-- the answer of a matrix file
+abbrev pub mat_answer : {A : Type 0} → Result A TokenFault → Result A MatFault
+mat_answer (Ok a) = Ok a
+mat_answer (Err f) = Err (mat_fault f)
 
--- so many numbers, and the tokens after them
-abbrev pub numbers_in : ℕ → ℕ → ℕ → List Token → Result (List ℤ × List Token) MatFault
-numbers_in zero largest end ts = Ok ([], ts)
-numbers_in (suc n) largest end ts =
-    and_then (first_by (number_at largest) end ts) (λ a.
-    and_then (numbers_in n largest end a.1) (λ rest. Ok (a.0 ∷ rest.0, rest.1)))
-
--- nothing follows
-abbrev pub ended : {A : Type 0} → A → List Token → Result A MatFault
-ended a [] = Ok a
-ended a (t ∷ ts) = Err (fault.Extra t.at)
-
--- the matrix that the tokens spell, or the fault of the first token that is refused
-abbrev pub matrix_from : Shape → ℕ → List Token → Result Matrix MatFault
-matrix_from shape end ts =
-    and_then (first_by (size_at shape.rows_from shape.rows_to) end ts) (λ rows.
-    and_then (first_by (size_at shape.cols_from shape.cols_to) end rows.1) (λ cols.
-    and_then (numbers_in (rows.0 * cols.0) shape.largest end cols.1) (λ entries.
-    ended (record { cols = cols.0; rows = rows_of rows.0 cols.0 entries.0 }) entries.1)))
+-- a matrix within the shape: its number of rows, its number of columns, and its entries
+abbrev pub next_shaped : Shape → Left → Read Matrix
+next_shaped shape left =
+    and_then (next_size shape.rows_from shape.rows_to left) (λ rows.
+    and_then (next_size shape.cols_from shape.cols_to rows.1) (λ cols.
+    next_matrix rows.0 cols.0 shape.largest cols.1))
 
 -- the matrix that the bytes spell, or the fault of the first token that is refused
 abbrev pub parsed_matrix : Shape → List ℕ → Result Matrix MatFault
-parsed_matrix shape bytes = matrix_from shape (length bytes) (tokens bytes)
+parsed_matrix shape bytes = mat_answer (only (next_shaped shape) bytes)
 
 -- it is the fault that reading gives, or memory ran out
 abbrev pub IsMatFault : {A : Type 0} → Result A MatFault → MatFault → Type 0

@@ -1,5 +1,5 @@
 -- Tokens of a file, and the numbers that they spell.
-use Rattle.std.specs.Prelude.{◌≡◌, ℕ, suc, ◌+◌, ◌-◌, ◌*◌, ◌≤◌, ℤ, pos, neg_ℤ, unsigned_abs, nat_eq, nat_le, Bool, true, false, ◌&&◌, ◌||◌, not, List, [], ◌∷◌, cond, Option, Some, None, Result, Ok, Err, fold}
+use Rattle.std.specs.Prelude.{◌≡◌, ℕ, suc, ◌+◌, ◌-◌, ◌*◌, ◌≤◌, ℤ, pos, neg_ℤ, unsigned_abs, nat_eq, nat_le, Bool, true, false, ◌&&◌, ◌||◌, not, List, [], ◌∷◌, cond, Option, Some, None, Result, Ok, Err, fold, length}
 use Rattle.std.specs.List.{list_all}
 use Rattle.mat_files.specs.declared.tokens.Token as rust
 use Rattle.mat_files.specs.declared.numbers.Spelled.{Spelled}
@@ -35,10 +35,23 @@ tokens_from n (b ∷ bs) =
 abbrev pub tokens : List ℕ → List Token
 tokens bytes = tokens_from 0 bytes
 
+-- what is left of a text: the tokens to come, and the place where the text ends
+pub record Left : Type 0 where
+  pub tokens : List Token
+  pub end : ℕ
+
+-- all of a text is left
+abbrev pub whole : List ℕ → Left
+whole bytes = record { tokens = tokens bytes; end = length bytes }
+
+-- a token that code holds
+abbrev pub seen : rust.Token → Token
+seen t = record { at = t.at; text = t.text.now }
+
 -- the token is the first of those before, and those after are the others; or none is left
-abbrev pub IsNext : List Token → Option rust.Token → List Token → Type 0
-IsNext before None after = (before ≡ []) × (after ≡ [])
-IsNext before (Some t) after = before ≡ record { at = t.at; text = t.text.now } ∷ after
+abbrev pub IsNext : Left → Option rust.Token → Left → Type 0
+IsNext before None after = (before.tokens ≡ []) × (after ≡ before)
+IsNext before (Some t) after = before ≡ record { tokens = seen t ∷ after.tokens; end = after.end }
 
 -- a decimal digit
 abbrev pub is_digit : ℕ → Bool

@@ -91,3 +91,40 @@ impl Matrix {
         self.entries.as_slice()
     }
 }
+
+#[cfg(test)]
+mod tests {
+    use super::*;
+    use crate::fault::{FaultKind, MatFault, TokenFault};
+    use crate::shape::Shape;
+    use std::test::Fail;
+
+    fn crosses_threads<T: Send + Sync + Drop>(_value: T) {}
+
+    #[test]
+    fn matrices_and_faults_cross_threads(rt: HostRuntime) {
+        crosses_threads(Matrix::new(0, 0, Vec::new(rt.alloc())));
+        crosses_threads(TokenFault::new(0, FaultKind::Word));
+        crosses_threads(MatFault::Memory);
+        crosses_threads(Shape {
+            rows_from: 0,
+            rows_to: 1,
+            cols_from: 0,
+            cols_to: 1,
+            largest: 1,
+        });
+    }
+
+    #[test]
+    fn rows_and_columns_count_from_1(rt: HostRuntime) -> Result<(), Fail> {
+        let matrix = Matrix::new(2, 3, vec![in rt.alloc(); 1, 2, 3, 4, 5, 6]?);
+        assert_eq!(rt; (matrix.rows(), matrix.cols()), (2, 3));
+        assert_eq!(rt; matrix.row(2), [4, 5, 6].as_slice());
+        assert_eq!(rt; matrix.entry(1, 3), 3);
+        assert_eq!(rt;
+            matrix.into_entries().as_slice(),
+            [1, 2, 3, 4, 5, 6].as_slice()
+        );
+        Ok(())
+    }
+}

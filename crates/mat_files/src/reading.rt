@@ -1,13 +1,13 @@
 //! Reading matrix files.
 
-ghost use Rattle.std.specs.Prelude.{◌≡◌, ◌≤◌, ◌^◌, Ok, MatchResult, IfOk, length};
-ghost use Rattle.mat_files.specs.MatrixText.{number_at, size_at, first_by, numbers_in, parsed_matrix, IsMatFault};
+ghost use Rattle.std.specs.Prelude.{◌≡◌, ◌≤◌, ◌^◌, Ok, MatchResult};
+ghost use Rattle.mat_files.specs.Reading.{only, IsTokenFault};
+ghost use Rattle.mat_files.specs.MatrixText.{next_shaped, parsed_matrix, IsMatFault};
 
-use crate::fault::MatFault;
+use crate::fault::{MatFault, TokenFault};
 use crate::matrix::Matrix;
-use crate::numbers::{Spelled, spelled_number};
 use crate::shape::Shape;
-use crate::tokens::{Scanner, Token};
+use crate::tokens::Scanner;
 use std::alloc::Global;
 
 /// The matrix that a file holds: its number of rows, its number of columns, and its entries row by row, as
@@ -20,76 +20,21 @@ pub fn parse(alloc: Global, bytes: &[u8], shape: &Shape) -> Result<Matrix, MatFa
     requires { shape.now.largest ≤ 2 ^ 62 }
     ensures { MatchResult result (λ m. parsed_matrix shape.now bytes.now ≡ Ok m) (IsMatFault (parsed_matrix shape.now bytes.now)) }
 {
-    let end = bytes.len();
+    Ok(shaped(alloc, bytes, shape)?)
+}
+
+/// The matrix that is all that the bytes spell.
+fn shaped(alloc: Global, bytes: &[u8], shape: &Shape) -> Result<Matrix, TokenFault>
+    requires { shape.now.largest ≤ 2 ^ 62 }
+    ensures { MatchResult result (λ m. only (next_shaped shape.now) bytes.now ≡ Ok m)
+        (IsTokenFault (only (next_shaped shape.now) bytes.now)) }
+{
     let mut tokens = Scanner::new(bytes);
-    let rows = size(&mut tokens, end, shape.rows_from, shape.rows_to)?;
-    let cols = size(&mut tokens, end, shape.cols_from, shape.cols_to)?;
-    let count = u64::from(rows) * u64::from(cols);
-    let entries = numbers(alloc, &mut tokens, end, count, shape.largest)?;
-    match tokens.next() {
-        None => Ok(Matrix::new(rows, cols, entries)),
-        Some(token) => Err(MatFault::Extra { at: token.at }),
-    }
-}
-
-/// The number of rows or columns that the next token spells, in this range.
-fn size(tokens: &mut Scanner<'_>, end: usize, from: u32, to: u32) -> Result<u32, MatFault>
-    ensures { MatchResult result (λ n. first_by (size_at from to) end tokens.old ≡ Ok (n, tokens.new))
-        (IsMatFault (first_by (size_at from to) end tokens.old)) }
-{
-    let Some(token) = tokens.next() else {
-        return Err(MatFault::EndsEarly { at: end });
-    };
-    let got = number(&token, 1 << 62)?;
-    if got < i64::from(from) || i64::from(to) < got {
-        return Err(MatFault::Shape {
-            at: token.at,
-            got,
-            from,
-            to,
-        });
-    }
-    Ok(got as u32)
-}
-
-/// The numbers that the next tokens spell, `count` of them.
-fn numbers(
-    alloc: Global,
-    tokens: &mut Scanner<'_>,
-    end: usize,
-    count: u64,
-    largest: u64,
-) -> Result<Vec<i64>, MatFault>
-    requires { largest ≤ 2 ^ 62 }
-    ensures read { MatchResult result (λ v. numbers_in count largest end tokens.old ≡ Ok (v.items, tokens.new))
-        (IsMatFault (numbers_in count largest end tokens.old)) }
-    ensures all { IfOk result (λ v. length v.items ≡ count) }
-{
-    let mut numbers = Vec::new(alloc);
-    for _ in 0..count {
-        let Some(token) = tokens.next() else {
-            return Err(MatFault::EndsEarly { at: end });
-        };
-        numbers.push(number(&token, largest)?)?;
-    }
-    Ok(numbers)
-}
-
-/// The number that the token spells, of at most `largest` in absolute value.
-fn number(token: &Token<'_>, largest: u64) -> Result<i64, MatFault>
-    requires { largest ≤ 2 ^ 62 }
-    ensures { MatchResult result (λ a. number_at largest (record { at = token.now.at; text = token.now.text.now }) ≡ Ok a)
-        (IsMatFault (number_at largest (record { at = token.now.at; text = token.now.text.now }))) }
-{
-    let at = token.at;
-    if token.text == b"*".as_slice() {
-        return Err(MatFault::NoBound { at });
-    }
-    match spelled_number(token.text, u128::from(largest)) {
-        Spelled::NotNumber => Err(MatFault::NotNumber { at }),
-        Spelled::TooBig => Err(MatFault::TooBig { at }),
-        Spelled::Value(value) => Ok(value as i64),
-    }
+    let rows = tokens.size(shape.rows_from, shape.rows_to)?;
+    let cols = tokens.size(shape.cols_from, shape.cols_to)?;
+    let matrix = tokens.matrix(alloc, rows, cols, shape.largest)?;
+    tokens.end()?;
+    Ok(matrix)
 }
 
 #[cfg(test)]

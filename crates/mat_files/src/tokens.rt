@@ -3,7 +3,7 @@
 
 ghost use Rattle.std.specs.Prelude.{◌≡◌, ◌≤◌, not, length};
 ghost use Rattle.std.specs.List.{prefix_len};
-ghost use Rattle.mat_files.specs.Tokens.{is_white, tokens, IsNext};
+ghost use Rattle.mat_files.specs.Tokens.{is_white, whole, IsNext};
 
 use std::marker::Model;
 
@@ -14,7 +14,10 @@ pub struct Token<'a> {
     pub text: &'a [u8],
 }
 
-/// The tokens of a text that are still to come. It takes no memory.
+/// What is left of a text: its tokens that are still to come, and the place of its end. It takes no memory.
+///
+/// Each call that reads answers what the next tokens spell, or the fault of the first of them that is refused: its
+/// place and its kind.
 #[derive(Debug, Drop)]
 pub struct Scanner<'a> {
     bytes: &'a [u8],
@@ -22,26 +25,33 @@ pub struct Scanner<'a> {
 }
 
 impl<'a> Model for Scanner<'a> {
-    ghost use Rattle.std.specs.Prelude.{◌≤◌, List, drop, length};
+    ghost use Rattle.std.specs.Prelude.{◌≤◌, drop, length};
     ghost use Rattle.mat_files.specs.Tokens as texts;
 
-    ghost Value = { List texts.Token };
+    ghost Value = { texts.Left };
 
-    ghost view = { λ s. texts.tokens_from s.at (drop s.at s.bytes.now) };
+    ghost view = { λ s. record { tokens = texts.tokens_from s.at (drop s.at s.bytes.now); end = length s.bytes.now } };
 
     ghost invariant = { λ s. s.at ≤ length s.bytes.now };
 }
 
 impl<'a> Scanner<'a> {
-    /// All tokens of the text.
+    /// All of the text.
     pub fn new(bytes: &'a [u8]) -> Scanner<'a>
-        ensures { result ≡ tokens bytes.now }
+        ensures { result ≡ whole bytes.now }
     {
         Scanner { bytes, at: 0 }
     }
 
+    /// The place of the end of the text.
+    pub(crate) fn end_of_text(&self) -> usize
+        ensures { result ≡ self.now.end }
+    {
+        self.bytes.len()
+    }
+
     /// Takes the first token of those to come. None where there is none.
-    pub fn next(&mut self) -> Option<Token<'a>>
+    pub(crate) fn next(&mut self) -> Option<Token<'a>>
         ensures { IsNext self.old result self.new }
     {
         let left = &self.bytes[self.at..];

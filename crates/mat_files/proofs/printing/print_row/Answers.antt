@@ -2,7 +2,7 @@ use Rattle.std.proofs.Common.{◌≡◌, rules, arith, pos, ap, ◌∙◌, ◌++
 use Rattle.std.specs.Int.{w64}
 use Rattle.std.specs.Fmt.{signed_decimal}
 use Rattle.std.proofs.lemmas.List.Elements.{All-from_get_or}
-use Rattle.mat_files.proofs.PrintingLaws.{one_number, one_number_more}
+use Rattle.mat_files.proofs.PrintingLaws.{first_word_written, next_word_written}
 use Rattle.mat_files.proofs.printing.print_row.Goals as goal
 use Rattle.mat_files.proofs.printing.print_row.Goals.{then-i-gt0+in_ok-push, else-i-gt0}
 
@@ -19,10 +19,10 @@ loop-i-preserved c =
       text =
           elim c.if-i-gt0.branch [
             | then-i-gt0+in_ok-push w ↦
-                written ∙ one_number_more row c.loop-i.i (pos 0) old c.loop-i.out.items c.if-i-gt0.out.items
+                written ∙ next_word_written signed_decimal row c.loop-i.i (pos 0) old c.loop-i.out.items c.if-i-gt0.out.items
                 c.loop-i-test.true w.if-i-gt0.true c.loop-i.invariant.text (ap (λ t. t.items) w.out-is ∙ w.in_ok-push.ensures.items)
             | else-i-gt0 w ↦
-                written ∙ one_number row c.loop-i.i (pos 0) old c.if-i-gt0.out.items
+                written ∙ first_word_written signed_decimal row c.loop-i.i (pos 0) old c.if-i-gt0.out.items
                 c.loop-i-test.true w.if-i-gt0.false (ap (λ t. t.items) w.out-is ∙ c.loop-i.invariant.text)
           ];
       narrow = below_more _ _ c.loop-i.invariant.narrow fits;

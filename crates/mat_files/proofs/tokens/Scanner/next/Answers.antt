@@ -1,4 +1,5 @@
-use Rattle.std.proofs.Common.{rules, ap, sym, ◌∙◌, drop, take, length, ◌-◌}
+use Rattle.std.proofs.Common.{List, rules, ap, sym, ◌∙◌, drop, take, length, ◌-◌}
+use Rattle.mat_files.specs.Tokens.{Token, Left}
 use Rattle.mat_files.proofs.TokenLaws.{IsScanned, scanned_token, scanned_nothing}
 use Rattle.mat_files.proofs.tokens.Scanner.next.Goals as goal
 use Rattle.mat_files.proofs.tokens.Scanner.next.Goals.{After-split_at-2}
@@ -18,10 +19,17 @@ cut c =
       text_is = token.front ∙ ap (λ k. take k c.split_at.result.1.now) (sym token.front_len);
     }
 
+-- these tokens, and the end of the text
+abbrev left_of : After-split_at-2 → List Token → Left
+left_of c tokens = record { tokens = tokens; end = length c.self.inside.bytes.now }
+
 pub returns : goal.returns
-returns c = sym c.self.view_is ∙ scanned_token (cut (goal.at.returns c).After-split_at-2) (search rules)
+returns c =
+    let before = (goal.at.returns c).After-split_at-2 in
+    sym c.self.view_is ∙ ap (left_of before) (scanned_token (cut before) (search rules))
 
 pub returns-then-is_empty : goal.returns-then-is_empty
 returns-then-is_empty c =
-    let ends = scanned_nothing (cut (goal.at.returns-then-is_empty c).After-split_at-2) (search rules) in
-    (sym c.self.view_is ∙ ends.0, ends.1)
+    let before = (goal.at.returns-then-is_empty c).After-split_at-2 in
+    let ends = scanned_nothing (cut before) (search rules) in
+    (ap (λ l. l.tokens) (sym c.self.view_is) ∙ ends.0, ap (left_of before) (ends.1 ∙ sym ends.0) ∙ c.self.view_is)
