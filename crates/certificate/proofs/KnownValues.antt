@@ -6,7 +6,7 @@ use Rattle.lattice_theory.specs.Vectors.{Vector}
 use Rattle.lattice_theory.specs.Matrices.{Matrix}
 use Rattle.run_theory.specs.declared.Claim.{Claim}
 use Rattle.run_theory.specs.declared.Claim.TheVariants as claim
-use Rattle.run_theory.specs.Certificates.{Certificate, FoldPart}
+use Rattle.run_theory.specs.Certificates.{Certificate, FoldPart, Table, table_of}
 use Rattle.certificate.specs.declared.fault.CertKind.{CertKind}
 use Rattle.certificate.specs.declared.fault.CertKind.TheVariants as kind
 use Rattle.certificate.specs.declared.fault.CertFault.{CertFault}
@@ -80,6 +80,14 @@ link_printed = refl
 pub brick_read : parsed_certificate stuck_text ≡ Ok stuck_brick
 brick_read = refl
 
+pub best_read : parsed_certificate (codes "nfold-certificate 1\nclaim optimal\n" ++ best_parts)
+    ≡ Ok (certificate claim.Optimal best_point basis (Some best_fold))
+best_read = refl
+
+pub link_read : parsed_certificate (codes "nfold-certificate 1\nclaim infeasible-link\n" ++ best_parts)
+    ≡ Ok (certificate claim.InfeasibleLink best_point basis (Some best_fold))
+link_read = refl
+
 -- signs, leading zeros and other white space are accepted, and there may be no row
 pub other_spelling : parsed_certificate
     (codes "\tnfold-certificate 1 claim infeasible-brick +010 point 1\t02 +4 -04 bricks 0 48 end")
@@ -112,7 +120,7 @@ first_line = refl
 abbrev claimed : List ℕ → Result Certificate CertFault
 claimed rest = parsed_certificate (codes "nfold-certificate 1 claim " ++ rest)
 
-pub other_claim : claimed (codes "optimal point") ≡ refused 26 kind.Word
+pub other_claim : claimed (codes "feasible point") ≡ refused 26 kind.Word
 other_claim = refl
 
 -- a word that begins like the one that is wanted
@@ -153,3 +161,62 @@ wide_element = refl
 
 pub no_end : followed (codes "point 0 1 bricks 0 1 links") ≡ refused 66 kind.Word
 no_end = refl
+
+-- what stands behind the bricks of a claim on all bricks, which are followed by byte 55
+abbrev linked : List ℕ → Result Certificate CertFault
+linked rest = claimed (codes "optimal point 0 1 bricks 0 1 " ++ rest)
+
+-- the parts stand in their order
+pub no_links : linked (codes "bound 1") ≡ refused 55 kind.Word
+no_links = refl
+
+pub wide_entry : linked (codes "links 1 1 2147483648") ≡ refused 65 kind.TooBig
+wide_entry = refl
+
+pub too_wide : linked (codes "links 0 2017") ≡ refused 63 kind.TooMany
+too_wide = refl
+
+pub bound_too_big : linked (codes "links 0 1 bound 4611686018427387905") ≡ refused 71 kind.TooBig
+bound_too_big = refl
+
+-- a level is a count
+pub negative_level : linked (codes "links 0 1 bound 1 sums 1 2 -1 0") ≡ refused 82 kind.NotNumber
+negative_level = refl
+
+pub level_too_big : linked (codes "links 0 1 bound 1 sums 1 2 4611686018427387905 0") ≡ refused 82 kind.TooBig
+level_too_big = refl
+
+pub sum_too_big : linked (codes "links 0 1 bound 1 sums 1 2 0 140737488355329") ≡ refused 84 kind.TooBig
+sum_too_big = refl
+
+pub no_sum : linked (codes "links 0 1 bound 1 sums 1 2 0 none") ≡ refused 84 kind.NotNumber
+no_sum = refl
+
+pub too_many_layers : linked (codes "links 0 1 bound 1 sums 0 2 potentials 10002 1") ≡ refused 93 kind.TooMany
+too_many_layers = refl
+
+-- 10,001 rows of 105 are more than 2 ^ 20
+pub table_too_large : linked (codes "links 0 1 bound 1 sums 0 2 potentials 10001 105") ≡ refused 99 kind.TooMany
+table_too_large = refl
+
+pub no_potential : linked (codes "links 0 1 bound 1 sums 0 2 potentials 1 1 nine") ≡ refused 97 kind.NotNumber
+no_potential = refl
+
+pub potential_too_big : linked (codes "links 0 1 bound 1 sums 0 2 potentials 1 1 21267647932558653966460912964485513217")
+    ≡ refused 97 kind.TooBig
+potential_too_big = refl
+
+pub second_end : linked (codes "links 0 1 bound 1 sums 0 2 potentials 0 1 end end") ≡ refused 101 kind.Extra
+second_end = refl
+
+-- a claim on one brick has no parts about the linking rows
+pub brick_without_links : claimed (codes "infeasible-brick 1 point 0 1 bricks 0 1 links") ≡ refused 66 kind.Word
+brick_without_links = refl
+
+-- ---- tables
+
+abbrev table : Table
+table = table_of 2 2 (Some (pos 8) ∷ None ∷ None ∷ Some (minus 3) ∷ [])
+
+pub by_rows : table.rows ≡ (Some (pos 8) ∷ None ∷ []) ∷ (None ∷ Some (minus 3) ∷ []) ∷ []
+by_rows = refl

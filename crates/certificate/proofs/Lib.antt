@@ -1,6 +1,4 @@
-mod ReadingLaws
-mod RowLaws
-mod WordLaws
-mod Printed
+mod ReadLaws
+mod TableLaws
 mod RoundTrip
 mod KnownValues

@@ -1,13 +1,19 @@
--- The text of a certificate, and what is read back from its tokens: as yet, of the claim on one brick.
-use Rattle.std.specs.Prelude.{◌≡◌, ℕ, zero, suc, ◌-◌, ◌*◌, ◌^◌, ◌⊎◌, ℤ, unsigned_abs, nat_le, List, [], ◌∷◌, ◌++◌}
+-- The text of a certificate, and what is read back from its tokens.
+use Rattle.std.specs.Prelude.{◌≡◌, ℕ, zero, suc, ◌-◌, ◌*◌, ◌^◌, ◌⊎◌, ℤ, pos, nat_le, List, [], ◌∷◌, ◌++◌}
 use Rattle.std.specs.Prelude.{map, length, flat_map, cond, Option, Some, None, Result, Ok, Err, bytes_eq, codes}
 use Rattle.std.specs.Fmt.{decimal, signed_decimal}
 use Rattle.std.specs.List.{join_with_byte}
-use Rattle.lattice_theory.specs.Matrices.{Matrix, rows_of}
+use Rattle.lattice_theory.specs.Vectors.{Vector}
+use Rattle.lattice_theory.specs.Matrices.{Matrix}
 use Rattle.run_theory.specs.declared.Claim.{Claim}
 use Rattle.run_theory.specs.declared.Claim.TheVariants as claim
-use Rattle.run_theory.specs.Certificates.{Certificate, FoldPart, Table}
-use Rattle.mat_files.specs.Tokens.{Token, tokens, number_of, count_of, and_then}
+use Rattle.run_theory.specs.Certificates.{Certificate, FoldPart, Table, table_of}
+use Rattle.mat_files.specs.declared.fault.FaultKind.{FaultKind}
+use Rattle.mat_files.specs.declared.fault.FaultKind.TheVariants as token
+use Rattle.mat_files.specs.declared.fault.TokenFault.{TokenFault}
+use Rattle.mat_files.specs.Tokens.{Token, Left, and_then}
+use Rattle.mat_files.specs.Reading.{Read, refused, number_at, count_at, next_token, next_by, next_word, next_number, next_count}
+use Rattle.mat_files.specs.Reading.{repeated, next_matrix, only}
 use Rattle.mat_files.specs.MatrixText.{matrix_text}
 use Rattle.certificate.specs.declared.fault.CertKind.{CertKind}
 use Rattle.certificate.specs.declared.fault.CertKind.TheVariants as kind
@@ -47,90 +53,130 @@ certificate_text c =
     codes "nfold-certificate 1\nclaim " ++ claim_text c.claim ++ codes "\npoint\n" ++ matrix_text c.point
     ++ codes "bricks\n" ++ matrix_text c.bricks ++ fold_text c.fold ++ codes "end\n"
 
--- ---- reading
+-- ---- reading the parts
 
--- what is read, and the tokens after it
-abbrev pub Read : Type 0 → Type 0
-Read A = Result (A × List Token) CertFault
+-- a number of rows or columns
+abbrev pub next_size : ℕ → Left → Read ℕ
+next_size most left = next_count 0 most token.TooMany left
 
-abbrev pub refused : {A : Type 0} → ℕ → CertKind → Result A CertFault
-refused at kind = Err (record { at = at; kind = kind })
+-- this word, and then a matrix of at most so many rows and columns, with entries of at most so much in absolute value
+abbrev pub next_part : List ℕ → ℕ → ℕ → ℕ → Left → Read Matrix
+next_part word most_rows most_cols largest left =
+    and_then (next_word word left) (λ a. and_then (next_size most_rows a.1) (λ rows.
+    and_then (next_size most_cols rows.1) (λ cols. next_matrix rows.0 cols.0 largest cols.1)))
 
--- this word
-abbrev pub word_in : List ℕ → ℕ → List Token → Read (Unit {0})
-word_in word end [] = refused end kind.EndsEarly
-word_in word end (t ∷ ts) = cond (bytes_eq t.text word) (Ok (tt, ts)) (refused t.at kind.Word)
+-- the bound
+abbrev pub next_bound : Left → Read ℕ
+next_bound left =
+    and_then (next_word (codes "bound") left) (λ a. next_count 0 (2 ^ 62) token.TooBig a.1)
 
--- what this makes of a token, where its size is at most so much; else the fault is of the kind past
-abbrev pub bounded_in : {A : Type 0} → (List ℕ → Option A) → (A → ℕ) → ℕ → CertKind → ℕ → List Token → Read A
-bounded_in read size largest past end [] = refused end kind.EndsEarly
-bounded_in read size largest past end (t ∷ ts) =
-    elim (read t.text) [
-      | None ↦ refused t.at kind.NotNumber
-      | Some a ↦ cond (nat_le (size a) largest) (Ok (a, ts)) (refused t.at past)
-    ]
+-- a row of sums of so many columns: the level, which is a count, and then the sum
+abbrev pub next_sum : ℕ → Left → Read Vector
+next_sum zero left = Ok ([], left)
+next_sum (suc cols) left =
+    and_then (next_count 0 (2 ^ 62) token.TooBig left) (λ level.
+    and_then (repeated (next_number (2 ^ 47)) cols level.1) (λ v. Ok (pos level.0 ∷ v.0, v.1)))
 
--- a number of at most so much in absolute value
-abbrev pub number_in : ℕ → ℕ → List Token → Read ℤ
-number_in largest end ts = bounded_in number_of unsigned_abs largest kind.TooBig end ts
+-- the sums
+abbrev pub next_sums : Left → Read Matrix
+next_sums left =
+    and_then (next_word (codes "sums") left) (λ a. and_then (next_size 20000 a.1) (λ rows.
+    and_then (next_size 33 rows.1) (λ cols. and_then (repeated (next_sum cols.0) rows.0 cols.1) (λ sums.
+    Ok (record { cols = cols.0; rows = sums.0 }, sums.1)))))
 
--- a count of at most so much; else the fault is of the kind past
-abbrev pub count_in : ℕ → CertKind → ℕ → List Token → Read ℕ
-count_in most past end ts = bounded_in count_of (λ n. n) most past end ts
+-- a potential: a number, or none
+abbrev pub cell_at : Token → Result (Option ℤ) TokenFault
+cell_at t = cond (bytes_eq t.text (codes "none")) (Ok None) (and_then (number_at (2 ^ 124) t) (λ a. Ok (Some a)))
 
--- so many of what this reads, one after the other
-abbrev pub repeated : {A : Type 0} → (List Token → Read A) → ℕ → List Token → Read (List A)
-repeated read zero ts = Ok ([], ts)
-repeated read (suc n) ts =
-    and_then (read ts) (λ a. and_then (repeated read n a.1) (λ rest. Ok (a.0 ∷ rest.0, rest.1)))
+-- the number of columns of a table of so many rows: at most 20,000, with at most 2 ^ 20 entries
+abbrev pub width_at : ℕ → Token → Result ℕ TokenFault
+width_at rows t =
+    and_then (count_at 0 20000 token.TooMany t) (λ cols.
+    cond (nat_le (rows * cols) (2 ^ 20)) (Ok cols) (refused t.at token.TooMany))
 
--- a matrix of at most so many rows and columns, with entries of at most so much in absolute value
-abbrev pub matrix_in : ℕ → ℕ → ℕ → ℕ → List Token → Read Matrix
-matrix_in most_rows most_cols largest end ts =
-    and_then (count_in most_rows kind.TooMany end ts) (λ rows.
-    and_then (count_in most_cols kind.TooMany end rows.1) (λ cols.
-    and_then (repeated (number_in largest end) (rows.0 * cols.0) cols.1) (λ entries.
-    Ok (record { cols = cols.0; rows = rows_of rows.0 cols.0 entries.0 }, entries.1))))
+-- the potentials
+abbrev pub next_potentials : Left → Read Table
+next_potentials left =
+    and_then (next_word (codes "potentials") left) (λ a. and_then (next_size 10001 a.1) (λ rows.
+    and_then (next_by (width_at rows.0) rows.1) (λ cols. and_then (repeated (next_by cell_at) (rows.0 * cols.0) cols.1) (λ cells.
+    Ok (table_of rows.0 cols.0 cells.0, cells.1)))))
 
--- this word, and then such a matrix
-abbrev pub part_in : List ℕ → ℕ → ℕ → ℕ → ℕ → List Token → Read Matrix
-part_in word most_rows most_cols largest end ts =
-    and_then (word_in word end ts) (λ a. matrix_in most_rows most_cols largest end a.1)
+-- the parts about the linking rows
+abbrev pub next_fold : Left → Read FoldPart
+next_fold left =
+    and_then (next_part (codes "links") 2000 2016 (2 ^ 31 - 1) left) (λ links.
+    and_then (next_bound links.1) (λ bound. and_then (next_sums bound.1) (λ sums.
+    and_then (next_potentials sums.1) (λ potentials. Ok (
+      record {
+        links = links.0;
+        bound = bound.0;
+        sums = sums.0;
+        potentials = potentials.0;
+      },
+      potentials.1,
+    )))))
 
--- the number of the brick that the claim is on
-abbrev pub brick_in : ℕ → List Token → Read Claim
-brick_in end ts = and_then (count_in 10000 kind.TooBig end ts) (λ i. Ok (claim.InfeasibleBrick i.0, i.1))
-
--- a claim: its word, and what belongs to it
-abbrev pub claim_in : ℕ → List Token → Read Claim
-claim_in end [] = refused end kind.EndsEarly
-claim_in end (t ∷ ts) =
-    cond (bytes_eq t.text (codes "infeasible-brick")) (brick_in end ts) (refused t.at kind.Word)
+-- ---- reading the whole
 
 -- the words of the first line, and the word before the claim
-abbrev pub head_in : ℕ → List Token → Read (Unit {0})
-head_in end ts =
-    and_then (word_in (codes "nfold-certificate") end ts) (λ a.
-    and_then (word_in (codes "1") end a.1) (λ b. word_in (codes "claim") end b.1))
+abbrev pub next_head : Left → Read (Unit {0})
+next_head left =
+    and_then (next_word (codes "nfold-certificate") left) (λ a.
+    and_then (next_word (codes "1") a.1) (λ b. next_word (codes "claim") b.1))
 
--- nothing follows
-abbrev pub ended : {A : Type 0} → A → List Token → Result A CertFault
-ended a [] = Ok a
-ended a (t ∷ ts) = refused t.at kind.Extra
+-- what belongs to a claim whose word is this token
+abbrev pub claim_after : Token → Left → Read Claim
+claim_after t left =
+    cond (bytes_eq t.text (codes "optimal")) (Ok (claim.Optimal, left))
+    (cond (bytes_eq t.text (codes "infeasible-link")) (Ok (claim.InfeasibleLink, left))
+    (cond (bytes_eq t.text (codes "infeasible-brick"))
+    (and_then (next_count 0 10000 token.TooBig left) (λ i. Ok (claim.InfeasibleBrick i.0, i.1)))
+    (refused t.at token.Word)))
 
--- the certificate that the tokens spell, or the fault of the first token that is refused
-abbrev pub certificate_from : ℕ → List Token → Result Certificate CertFault
-certificate_from end ts =
-    and_then (head_in end ts) (λ head.
-    and_then (claim_in end head.1) (λ claim.
-    and_then (part_in (codes "point") 10000 32 (2 ^ 62) end claim.1) (λ point.
-    and_then (part_in (codes "bricks") 2000 48 (2 ^ 31 - 1) end point.1) (λ bricks.
-    and_then (word_in (codes "end") end bricks.1) (λ last.
-    ended (record { claim = claim.0; point = point.0; bricks = bricks.0; fold = None }) last.1)))))
+-- a claim: its word, and what belongs to it
+abbrev pub next_claim : Left → Read Claim
+next_claim left = and_then (next_token left) (λ t. claim_after t.0 t.1)
+
+-- the parts about the linking rows, where the claim is on all bricks
+abbrev pub fold_after : Claim → Left → Read (Option FoldPart)
+fold_after claim.Optimal left = and_then (next_fold left) (λ f. Ok (Some f.0, f.1))
+fold_after (claim.InfeasibleBrick i) left = Ok (None, left)
+fold_after claim.InfeasibleLink left = and_then (next_fold left) (λ f. Ok (Some f.0, f.1))
+
+-- a certificate
+abbrev pub next_certificate : Left → Read Certificate
+next_certificate left =
+    and_then (next_head left) (λ head.
+    and_then (next_claim head.1) (λ claim.
+    and_then (next_part (codes "point") 10000 32 (2 ^ 62) claim.1) (λ point.
+    and_then (next_part (codes "bricks") 2000 48 (2 ^ 31 - 1) point.1) (λ bricks.
+    and_then (fold_after claim.0 bricks.1) (λ fold.
+    and_then (next_word (codes "end") fold.1) (λ last.
+    Ok (record { claim = claim.0; point = point.0; bricks = bricks.0; fold = fold.0 }, last.1)))))))
+
+-- what is wrong with a token of a certificate, which has no absent bounds
+abbrev pub cert_kind : FaultKind → CertKind
+cert_kind token.Word = kind.Word
+cert_kind token.NotNumber = kind.NotNumber
+cert_kind token.NoBound = kind.NotNumber
+cert_kind token.TooBig = kind.TooBig
+cert_kind token.TooMany = kind.TooMany
+cert_kind (token.Size got from to) = kind.TooMany
+cert_kind token.EndsEarly = kind.EndsEarly
+cert_kind token.Extra = kind.Extra
+cert_kind token.Memory = kind.Memory
+
+abbrev pub cert_fault : TokenFault → CertFault
+cert_fault f = record { at = f.at; kind = cert_kind f.kind }
+
+-- the answer on a certificate
+abbrev pub cert_answer : {A : Type 0} → Result A TokenFault → Result A CertFault
+cert_answer (Ok a) = Ok a
+cert_answer (Err f) = Err (cert_fault f)
 
 -- the certificate that the bytes spell, or the fault of the first token that is refused
 abbrev pub parsed_certificate : List ℕ → Result Certificate CertFault
-parsed_certificate bytes = certificate_from (length bytes) (tokens bytes)
+parsed_certificate bytes = cert_answer (only next_certificate bytes)
 
 -- it is the fault that reading gives, or memory ran out
 abbrev pub IsCertFault : {A : Type 0} → Result A CertFault → CertFault → Type 0

@@ -2,21 +2,21 @@
 
 mod printing;
 
-ghost use Rattle.std.specs.Prelude.{◌≡◌, ◌≤◌, None, All, length};
+ghost use Rattle.std.specs.Prelude.{◌≡◌, ◌≤◌, Some, None, Ok, All, length, option_copied};
 ghost use Rattle.lattice_theory.specs.BasisLimits.{IsNarrow};
-ghost use Rattle.certificate.specs.Readable.{IsBrickClaim, IsBoundedRow};
+ghost use Rattle.certificate.specs.CertificateText.{certificate_text, parsed_certificate};
+ghost use Rattle.certificate.specs.Readable.{IsBoundedRow, IsOnAllBricks, FitsClaim};
 
 use crate::fold_part::FoldPart;
-use run_theory::Claim;
 use mat_files::Matrix;
 pub use printing::print;
+use run_theory::Claim;
 use std::marker::Model;
 
-/// What is claimed, and what shows it: a point, the slack basis of the matrix of all bricks, and the parts about the
-/// linking rows.
+/// What is claimed, and what shows it: a point, the slack basis of the matrix of all bricks, and, exactly where the
+/// claim is on all bricks, the parts about the linking rows.
 ///
-/// Each certificate can be printed and read back. As yet the claim is always on one brick, whose number is at most
-/// 10,000, and there are no parts about the linking rows.
+/// Each certificate can be printed and read back.
 #[derive(Debug, Drop)]
 pub struct Certificate {
     claim: Claim,
@@ -27,6 +27,7 @@ pub struct Certificate {
 
 impl Model for Certificate {
     ghost use Rattle.run_theory.specs.Certificates as certificates;
+    ghost use Rattle.certificate.specs.CertificateText.{certificate_text, parsed_certificate};
     ghost use Rattle.certificate.specs.Readable.{IsReadable};
 
     ghost Value = { certificates.Certificate };
@@ -50,33 +51,54 @@ impl Certificate {
         requires narrow { All IsNarrow bricks.rows }
         ensures { result ≡ record { claim = Claim.InfeasibleBrick brick; point = point; bricks = bricks; fold = None } }
     {
-        Certificate::new(Claim::InfeasibleBrick { brick }, point, bricks)
+        Certificate::new(Claim::InfeasibleBrick { brick }, point, bricks, None)
     }
 
-    /// The certificate of these parts, with none about the linking rows.
-    pub(crate) fn new(claim: Claim, point: Matrix, bricks: Matrix) -> Certificate
-        requires claim { IsBrickClaim claim }
+    /// The certificate of a claim on all bricks, `Optimal` or `InfeasibleLink`. The point has a row for each brick,
+    /// and `bricks` has the elements of the slack basis as its rows.
+    pub fn on_all_bricks(claim: Claim, point: Matrix, bricks: Matrix, fold: FoldPart) -> Certificate
+        requires claim { IsOnAllBricks claim }
         requires point_rows { length point.rows ≤ 10000 }
         requires point_cols { point.cols ≤ 32 }
         requires bounded { All IsBoundedRow point.rows }
         requires brick_rows { length bricks.rows ≤ 2000 }
         requires brick_cols { bricks.cols ≤ 48 }
         requires narrow { All IsNarrow bricks.rows }
-        ensures { result ≡ record { claim = claim; point = point; bricks = bricks; fold = None } }
+        ensures { result ≡ record { claim = claim; point = point; bricks = bricks; fold = Some fold } }
+    {
+        fold.is_within_limits();
+        Certificate::new(claim, point, bricks, Some(fold))
+    }
+
+    /// The certificate of these parts.
+    pub(crate) fn new(
+        claim: Claim,
+        point: Matrix,
+        bricks: Matrix,
+        fold: Option<FoldPart>,
+    ) -> Certificate
+        requires parts { FitsClaim claim fold }
+        requires point_rows { length point.rows ≤ 10000 }
+        requires point_cols { point.cols ≤ 32 }
+        requires bounded { All IsBoundedRow point.rows }
+        requires brick_rows { length bricks.rows ≤ 2000 }
+        requires brick_cols { bricks.cols ≤ 48 }
+        requires narrow { All IsNarrow bricks.rows }
+        ensures { result ≡ record { claim = claim; point = point; bricks = bricks; fold = fold } }
     {
         prove!(point.cols() <= 32 && bricks.cols() <= 48);
         Certificate {
             claim,
             point,
             bricks,
-            fold: None,
+            fold,
         }
     }
 
-    /// What is claimed: as yet, that one brick cannot meet its rows.
+    /// What is claimed. The parts about the linking rows are there exactly where that is on all bricks.
     pub fn claim(&self) -> Claim
         ensures claim { result ≡ self.now.claim }
-        ensures brick { IsBrickClaim result }
+        ensures parts { FitsClaim result self.now.fold }
     {
         self.claim
     }
@@ -100,5 +122,20 @@ impl Certificate {
         ensures narrow { All IsNarrow self.now.bricks.rows }
     {
         &self.bricks
+    }
+
+    /// The parts about the linking rows, where the claim is on all bricks.
+    pub fn fold(&self) -> Option<&FoldPart>
+        ensures fold { option_copied result ≡ self.now.fold }
+        ensures parts { FitsClaim self.now.claim self.now.fold }
+    {
+        self.fold.as_ref()
+    }
+
+    /// The text of each certificate is read as that certificate: a law.
+    pub fn is_read_back(&self)
+        ensures { parsed_certificate (certificate_text self.now) ≡ Ok self.now }
+    {
+        let _claim = self.claim;
     }
 }

@@ -1,9 +1,8 @@
 //! Why a certificate is refused.
 
 ghost use Rattle.std.specs.Prelude.{◌≡◌};
-ghost use Rattle.certificate.specs.declared.fault.CertKind.TheVariants.{Memory};
 
-use std::alloc::{AllocError, AllocFailed};
+use mat_files::{FaultKind, TokenFault};
 use thiserror::Error;
 
 /// What is wrong with the first token that is refused.
@@ -12,7 +11,7 @@ pub enum CertKind {
     /// A fixed word is wanted, and the token is another.
     #[error("another word is wanted")]
     Word,
-    /// A number or a count is wanted, and the token is none.
+    /// A number, a count or `none` is wanted, and the token is none that may stand there.
     #[error("no number")]
     NotNumber,
     /// The number passes the largest of its place.
@@ -41,27 +40,21 @@ pub struct CertFault {
     pub kind: CertKind,
 }
 
-impl CertFault {
-    /// The fault of the token that begins at `at`.
-    pub(crate) fn new(at: usize, kind: CertKind) -> CertFault
-        ensures { result ≡ record { at = at; kind = kind } }
-    {
-        CertFault { at, kind }
-    }
-}
+impl From<TokenFault> for CertFault {
+    ghost use Rattle.certificate.specs.CertificateText.{cert_fault};
 
-impl From<AllocError> for CertFault {
-    ghost from_gives = { λ _ e. e.kind ≡ Memory };
+    ghost from_gives = { λ f e. e ≡ cert_fault f };
 
-    fn from(_: AllocError) -> CertFault {
-        CertFault::new(0, CertKind::Memory)
-    }
-}
-
-impl<T: Drop> From<AllocFailed<T>> for CertFault {
-    ghost from_gives = { λ _ e. e.kind ≡ Memory };
-
-    fn from(_: AllocFailed<T>) -> CertFault {
-        CertFault::new(0, CertKind::Memory)
+    fn from(f: TokenFault) -> CertFault {
+        let kind = match f.kind {
+            FaultKind::Word => CertKind::Word,
+            FaultKind::NotNumber | FaultKind::NoBound => CertKind::NotNumber,
+            FaultKind::TooBig => CertKind::TooBig,
+            FaultKind::TooMany | FaultKind::Size { .. } => CertKind::TooMany,
+            FaultKind::EndsEarly => CertKind::EndsEarly,
+            FaultKind::Extra => CertKind::Extra,
+            FaultKind::Memory => CertKind::Memory,
+        };
+        CertFault { at: f.at, kind }
     }
 }
