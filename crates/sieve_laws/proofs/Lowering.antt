@@ -114,7 +114,8 @@ pub record IsLowered (zs : List Vector) (menu : Menu) (next : Layer) (n : ℕ) (
 -- ---- where a move leads
 
 module _ (zs : List Vector) (rising : is_rising zs ≡ true) where
-  one_place : (i j : ℕ) (u : Vector) → slice_get zs i ≡ Some u → slice_get zs j ≡ Some u → i ≡ j
+  -- a vector stands at one place
+  pub one_place : (i j : ℕ) (u : Vector) → slice_get zs i ≡ Some u → slice_get zs j ≡ Some u → i ≡ j
   one_place i j u here there = by (cases_order i j)
     where
       by : (i ≡ j) ⊎ ((i < j) ⊎ (j < i)) → i ≡ j

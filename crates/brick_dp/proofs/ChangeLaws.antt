@@ -1,0 +1,87 @@
+-- What the moves of a brick change its cost by, one move after the other.
+use Rattle.std.proofs.Common.{◌≡◌, ℕ, zero, suc, ◌+◌, ◌-◌, ◌<◌, ◌≤◌, ℤ, ◌-ℤ◌, ◌≤ℤ◌, unsigned_abs, List, [], ◌∷◌, ◌++◌, length, refl, ap, arith, sym, ◌∙◌, Some, None, Option, slice_get, subst, All, ◌⊎◌, inl, inr, get_or, FitsSigned, w64, pos, negsuc, ◌^◌}
+use Rattle.std.proofs.lemmas.Option.{slice_get-get_or, slice_get_within, get_or_from_slice_get}
+use Rattle.std.proofs.lemmas.List.{length-append}
+use Rattle.std.proofs.lemmas.Bool.{cases_lt}
+use Rattle.std.proofs.lemmas.Int.{ints}
+use Rattle.std.specs.Prelude.{Vec}
+use Rattle.std.specs.declared.alloc.Global.{Global}
+use Rattle.std.specs.List.{AllZip}
+use Rattle.fold_theory.specs.declared.Phase.{Phase}
+use Rattle.fold_theory.specs.declared.Phase.TheVariants.{Closed}
+use Rattle.lattice_theory.specs.Vectors.{Vector, scale}
+use Rattle.lattice_laws.proofs.Conformal.{length-add}
+use Rattle.fold_laws.proofs.Multiples.{length-scale}
+use Rattle.fold_theory.specs.Programs.{Program, IsProgram, Brick, IsBrick, brick_cost}
+use Rattle.fold_program.specs.Places.{OfBrick}
+use Rattle.fold_program.specs.Refusals.{brick_magnitude, total_magnitude}
+use Rattle.step_targets.specs.Targets.{after, AreBetween, Leads}
+use Rattle.brick_dp.specs.Changes.{ForBrick, IsChange}
+use Rattle.brick_dp.proofs.CostLaws.{same_brick, brick_there, small_in_total}
+
+module _ {A : Type 0} where
+  some_is : (a b : A) → Some a ≡ Some b → a ≡ b
+  some_is a b e = cc
+
+  -- what stands at a place after one more element
+  pub slice_get-push : (xs : List A) (x y : A) (j : ℕ) → slice_get (xs ++ x ∷ []) j ≡ Some y → (slice_get xs j ≡ Some y) ⊎ ((j ≡ length xs) × (x ≡ y))
+  slice_get-push [] x y zero e = inr (refl, some_is x y e)
+  slice_get-push [] x y (suc j) e = absurd (cc)
+  slice_get-push (z ∷ xs) x y zero e = inl e
+  slice_get-push (z ∷ xs) x y (suc j) e = elim (slice_get-push xs x y j e) [ inl before ↦ inl before | inr last ↦ inr (ap suc last.0, last.1) ]
+
+  pub at_same : (o : Option A) (a b : A) → o ≡ Some a → o ≡ Some b → a ≡ b
+  at_same o a b p q = cc
+
+pub sized_at : (zs : List Vector) (t : ℕ) (i : ℕ) (w : Vector) → All (λ z. length z ≡ t) zs → slice_get zs i ≡ Some w → length w ≡ t
+sized_at zs t i w widths there =
+    sym (ap length (get_or_from_slice_get zs i w w there)) ∙ widths i w (slice_get_within zs i w there)
+
+pub length-after : (k : ℕ) (v d : Vector) (n : ℕ) → length v ≡ n → length d ≡ n → length (after k v d) ≡ n
+length-after k v d n e f = length-add v (scale (pos (2 ^ k)) d) n e (length-scale (pos (2 ^ k)) d ∙ f)
+
+-- what holds of a brick of this number holds of the one that stands there
+pub for_brick : (p : Program) (i : ℕ) (P : Brick → Type 0) → OfBrick p i P → ForBrick p i P
+for_brick p i P found b at = subst P (same_brick _ found.0 b found.1 at) found.2
+
+-- where a move leads within the bounds, it leads there
+pub led_to : (lower upper end : Vector) (o : Option (Vec ℤ Global)) (v : Vec ℤ Global) → Leads lower upper end o → o ≡ Some v → AreBetween lower upper end × (v.items ≡ end)
+led_to lower upper end None v h e = absurd (cc)
+led_to lower upper end (Some u) v h e =
+    let same : u ≡ v = some_is u v e in
+    (h.0, sym (ap (λ (w : Vec ℤ Global). w.items) same) ∙ h.1)
+
+-- the change of a move, from the costs before and after
+pub closed_change : (p : Program) (i : ℕ) (k : ℕ) (v d end lower upper : Vector) (after_cost before_cost : ℤ) →
+    OfBrick p i (λ b. lower ≡ b.lower) → OfBrick p i (λ b. upper ≡ b.upper) → AreBetween lower upper (after k v d) → end ≡ after k v d →
+    OfBrick p i (λ b. after_cost ≡ brick_cost b end) → OfBrick p i (λ b. unsigned_abs after_cost ≤ brick_magnitude b) →
+    OfBrick p i (λ b. before_cost ≡ brick_cost b v) → OfBrick p i (λ b. unsigned_abs before_cost ≤ brick_magnitude b) →
+    OfBrick p i (λ b. IsChange Closed k b v d (Some (after_cost -ℤ before_cost)))
+closed_change p i k v d end lower upper after_cost before_cost lowers uppers between led after_is after_low before_is before_low = (
+  b,
+  lowers.1,
+  (
+    (subst (λ l. AllZip ◌≤ℤ◌ l (after k v d)) lowers.2 between.0,
+        subst (λ u. AllZip ◌≤ℤ◌ (after k v d) u) (uppers.2 ∙ ap (λ (c : Brick). c.upper) (same_brick _ uppers.0 b uppers.1 lowers.1)) between.1),
+    λ k. after_here k -ℤ before_here k,
+    omega (arith, ints, ap brick_magnitude (same_brick _ after_low.0 b after_low.1 lowers.1), after_low.2,
+        ap brick_magnitude (same_brick _ before_low.0 b before_low.1 lowers.1), before_low.2),
+  ),
+)
+  where
+    b : Brick
+    b = lowers.0
+
+    after_here : after_cost ≡ brick_cost b (after k v d)
+    after_here = after_is.2 ∙ ap (λ c. brick_cost c end) (same_brick _ after_is.0 b after_is.1 lowers.1) ∙ ap (brick_cost b) led
+
+    before_here : before_cost ≡ brick_cost b v
+    before_here = before_is.2 ∙ ap (λ c. brick_cost c v) (same_brick _ before_is.0 b before_is.1 lowers.1)
+
+-- such a change fits
+pub change_fits : (p : Program) (i : ℕ) (a b : ℤ) → total_magnitude p ≤ 2 ^ 120 → OfBrick p i (λ b. unsigned_abs a ≤ brick_magnitude b) →
+    OfBrick p i (λ c. unsigned_abs b ≤ brick_magnitude c) → unsigned_abs (a -ℤ b) ≤ 2 ^ 121
+change_fits p i a b most first second =
+    let left = small_in_total p i a most first in
+    let right = small_in_total p i b most second in
+    omega (arith, ints, left, right)

@@ -1,0 +1,202 @@
+-- The menu of a brick, one listed sum after the other, and those of all bricks.
+use Rattle.std.proofs.Common.{◌≡◌, ℕ, zero, suc, ◌+◌, ◌-◌, ◌*◌, ◌<◌, ◌≤◌, ℤ, pos, unsigned_abs, List, [], ◌∷◌, ◌++◌, length, refl, ap, arith, sym, ◌∙◌, Some, None, Option, slice_get, subst, All, ◌⊎◌, inl, inr, get_or}
+use Rattle.std.proofs.lemmas.List.{length-append, length-map}
+use Rattle.std.proofs.lemmas.Option.{slice_get_within, get_or_from_slice_get, slice_get-get_or}
+use Rattle.std.proofs.lemmas.Bool.{cases_lt}
+use Rattle.std.specs.Prelude.{Vec}
+use Rattle.std.specs.declared.alloc.Global.{Global}
+use Rattle.lattice_theory.specs.Vectors.{Vector}
+use Rattle.lattice_theory.specs.SignedSums.{Sum, vectors}
+use Rattle.fold_theory.specs.Programs.{Program, Brick, Bricks, IsWithin}
+use Rattle.fold_program.specs.Refusals.{brick_magnitude}
+use Rattle.run_theory.specs.Folds.{FoldValue}
+use Rattle.run_theory.specs.Walks.{brick_change}
+use Rattle.sieve_laws.specs.declared.PricedMove.{PricedMove}
+use Rattle.sieve_laws.specs.Sieve.{Menu, IsMenu, after}
+use Rattle.brick_dp.specs.Changes.{ForBrick, IsChange}
+use Rattle.brick_dp.specs.Menus.{IsBrickMenu, AreMenus, menus_of}
+use Rattle.brick_dp.proofs.ChangeLaws.{at_same, slice_get-push}
+
+module _ {A : Type 0} where
+  slice_get-before : (xs : List A) (x y : A) (i : ℕ) → slice_get xs i ≡ Some y → slice_get (xs ++ x ∷ []) i ≡ Some y
+  slice_get-before [] x y i there = absurd (cc)
+  slice_get-before (z ∷ xs) x y zero there = there
+  slice_get-before (z ∷ xs) x y (suc i) there = slice_get-before xs x y i there
+
+  pub slice_get-last : (xs : List A) (x : A) → slice_get (xs ++ x ∷ []) (length xs) ≡ Some x
+  slice_get-last [] x = refl
+  slice_get-last (z ∷ xs) x = slice_get-last xs x
+
+-- a move of the menu, or the one behind it
+abbrev IsAt : Menu → PricedMove → ℕ → PricedMove → Type 0
+IsAt menu new i m = (slice_get menu i ≡ Some m) ⊎ ((i ≡ length menu) × (new ≡ m))
+
+module _ (f : FoldValue) (k : ℕ) (b : Brick) (v : Vector) where
+  abbrev zs : List Vector
+  zs = vectors f.sums
+
+  -- the moves to the first n sums
+  pub record MenuUpTo (menu : Menu) (n : ℕ) : Type 0 where
+    pub sound : (i : ℕ) (m : PricedMove) → slice_get menu i ≡ Some m → (d : Vector) × (slice_get zs m.place ≡ Some d) × IsChange f.phase k b v d (Some m.change)
+    pub low : (i : ℕ) (m : PricedMove) → slice_get menu i ≡ Some m → m.place < n
+    pub complete : (h : ℕ) (d : Vector) → h < n → slice_get zs h ≡ Some d → IsWithin b (after k v d) →
+        (i : ℕ) × (m : PricedMove) × (slice_get menu i ≡ Some m) × (m.place ≡ h)
+    pub rising : (i j : ℕ) (a c : PricedMove) → i < j → slice_get menu i ≡ Some a → slice_get menu j ≡ Some c → a.place < c.place
+
+  pub menu_none : (menu : Menu) → menu ≡ [] → MenuUpTo menu 0
+  menu_none menu is = record {
+    sound = λ i m there. absurd (none i m there);
+    low = λ i m there. absurd (none i m there);
+    complete = λ h d low. absurd (omega (arith, low));
+    rising = λ i j a c before here. absurd (none i a here);
+  }
+    where
+      none : (i : ℕ) (m : PricedMove) → slice_get menu i ≡ Some m → ⊥
+      none i m there = omega (arith, slice_get_within menu i m there, ap length is)
+
+  -- a move that leaves the bounds
+  pub menu_outside : (menu : Menu) (n : ℕ) (d : Vector) → slice_get zs n ≡ Some d → (IsWithin b (after k v d) → ⊥) → MenuUpTo menu n → MenuUpTo menu (n + 1)
+  menu_outside menu n d there outside so_far = record {
+    sound = so_far.sound;
+    low = λ i m here. omega (arith, so_far.low i m here);
+    complete = λ h e low listed within. by h e low listed within (cases_lt h n);
+    rising = so_far.rising;
+  }
+    where
+      by : (h : ℕ) (e : Vector) → h < n + 1 → slice_get zs h ≡ Some e → IsWithin b (after k v e) → (h < n) ⊎ (n ≤ h) →
+          (i : ℕ) × (m : PricedMove) × (slice_get menu i ≡ Some m) × (m.place ≡ h)
+      by h e low listed within (inl before) = so_far.complete h e before listed within
+      by h e low listed within (inr high) =
+          let last : h ≡ n = omega (arith, low, high) in
+          let same : e ≡ d = at_same (slice_get zs n) e d (ap (slice_get zs) (sym last) ∙ listed) there in
+          absurd (outside (subst (λ u. IsWithin b (after k v u)) same within))
+
+  -- one that stays within them
+  pub menu_more : (menu more : Menu) (n : ℕ) (d : Vector) (c : ℤ) → slice_get zs n ≡ Some d → IsChange f.phase k b v d (Some c) →
+      more ≡ menu ++ (record { place = n; change = c }) ∷ [] → MenuUpTo menu n → MenuUpTo more (n + 1)
+  menu_more menu more n d c there change is so_far =
+      subst (λ menu. MenuUpTo menu (n + 1)) (sym is) (record {
+        sound = λ i m here. sound i m (slice_get-push menu new m i here);
+        low = λ i m here. low i m (slice_get-push menu new m i here);
+        complete = λ h e under listed within. complete h e under listed within (cases_lt h n);
+        rising = λ i j a b before here then. rising i j a b before (slice_get-push menu new a i here) (slice_get-push menu new b j then);
+      })
+    where
+      new : PricedMove
+      new = record { place = n; change = c }
+
+      sound : (i : ℕ) (m : PricedMove) → IsAt menu new i m → (d : Vector) × (slice_get zs m.place ≡ Some d) × IsChange f.phase k b v d (Some m.change)
+      sound i m (inl before) = so_far.sound i m before
+      sound i m (inr last) =
+          subst (λ (m : PricedMove). (d : Vector) × (slice_get zs m.place ≡ Some d) × IsChange f.phase k b v d (Some m.change)) last.1 (d, there, change)
+
+      low : (i : ℕ) (m : PricedMove) → IsAt menu new i m → m.place < n + 1
+      low i m (inl before) = omega (arith, so_far.low i m before)
+      low i m (inr last) = let place = ap (λ (m : PricedMove). m.place) last.1 in omega (arith, place)
+
+      complete : (h : ℕ) (e : Vector) → h < n + 1 → slice_get zs h ≡ Some e → IsWithin b (after k v e) → (h < n) ⊎ (n ≤ h) →
+          (i : ℕ) × (m : PricedMove) × (slice_get (menu ++ new ∷ []) i ≡ Some m) × (m.place ≡ h)
+      complete h e under listed within (inl before) =
+          let old = so_far.complete h e before listed within in
+          (old.0, old.1, slice_get-before menu new old.1 old.0 old.2, old.3)
+      complete h e under listed within (inr high) = (length menu, new, slice_get-last menu new, omega (arith, under, high))
+
+      rising : (i j : ℕ) (a b : PricedMove) → i < j → IsAt menu new i a → IsAt menu new j b → a.place < b.place
+      rising i j a b before (inl here) (inl then) = so_far.rising i j a b before here then
+      rising i j a b before (inl here) (inr last) =
+          let place = ap (λ (m : PricedMove). m.place) last.1 in omega (arith, place, so_far.low i a here)
+      rising i j a b before (inr last) (inl then) = absurd (omega (arith, before, last.0, slice_get_within menu j b then))
+      rising i j a b before (inr last) (inr also) = absurd (omega (arith, before, last.0, also.0))
+
+  pub menu_all : (menu : Menu) (n : ℕ) → n ≡ length f.sums → MenuUpTo menu n → IsBrickMenu f k b v menu
+  menu_all menu n all so_far = record {
+    moves = record {
+      sound = λ i m there. let known = so_far.sound i m there in (known.0, known.1, known.2.0, known.2.1);
+      complete = λ h d there within. so_far.complete h d (omega (arith, all, count, slice_get_within zs h d there)) there within;
+      rising = so_far.rising;
+    };
+    low = λ i m low. subst (λ n. (get_or menu i m).place < n) all (so_far.low i (get_or menu i m) (slice_get-get_or menu i m low));
+    small = λ i m low. (so_far.sound i (get_or menu i m) (slice_get-get_or menu i m low)).2.2;
+  }
+    where
+      count : length zs ≡ length f.sums
+      count = length-map {A = Sum} {B = Vector} f.sums (λ s. s.vector)
+
+-- ---- the menus of all bricks
+
+abbrev pub Kept : Type 0
+Kept = Vec PricedMove Global
+
+-- the menus of the first n bricks
+pub record MenusUpTo (f : FoldValue) (x : Bricks) (k : ℕ) (menus : List Kept) (n : ℕ) : Type 0 where
+  pub size : length menus ≡ n
+  pub each : (i : ℕ) (b : Brick) (v : Vector) (menu : Kept) → slice_get f.program.bricks i ≡ Some b → slice_get x i ≡ Some v → slice_get menus i ≡ Some menu →
+      IsBrickMenu f k b v menu.items
+
+pub menus_none : (f : FoldValue) (x : Bricks) (k : ℕ) (menus : List Kept) → menus ≡ [] → MenusUpTo f x k menus 0
+menus_none f x k menus is = record {
+  size = ap length is;
+  each = λ i b v menu brick at there. absurd (omega (arith, slice_get_within menus i menu there, ap length is));
+}
+
+pub menus_more : (f : FoldValue) (x : Bricks) (k : ℕ) (menus more : List Kept) (n : ℕ) (v : Vector) (menu : Kept) → slice_get x n ≡ Some v →
+    ((b : Brick) → slice_get f.program.bricks n ≡ Some b → IsBrickMenu f k b v menu.items) → more ≡ menus ++ menu ∷ [] →
+    MenusUpTo f x k menus n → MenusUpTo f x k more (n + 1)
+menus_more f x k menus more n v menu at is_menu is so_far = record {
+  size = ap length is ∙ length-append menus (menu ∷ []) ∙ ap (λ m. m + 1) so_far.size;
+  each = λ i b u other brick here there. by i b u other brick here (slice_get-push menus menu other i (ap (λ ms. slice_get ms i) (sym is) ∙ there));
+}
+  where
+    by : (i : ℕ) (b : Brick) (u : Vector) (other : Kept) → slice_get f.program.bricks i ≡ Some b → slice_get x i ≡ Some u →
+        (slice_get menus i ≡ Some other) ⊎ ((i ≡ length menus) × (menu ≡ other)) → IsBrickMenu f k b u other.items
+    by i b u other brick here (inl before) = so_far.each i b u other brick here before
+    by i b u other brick here (inr last) =
+        let place : i ≡ n = last.0 ∙ so_far.size in
+        let vectors_same : v ≡ u = at_same (slice_get x n) v u at (ap (slice_get x) (sym place) ∙ here) in
+        subst (λ (m : Kept). IsBrickMenu f k b u m.items) last.1 (
+        subst (λ w. IsBrickMenu f k b w menu.items) vectors_same (is_menu b (ap (slice_get f.program.bricks) (sym place) ∙ brick))
+        )
+
+-- a menu in its list
+pub menu_at : (menus : List Kept) (i : ℕ) (menu : Kept) → slice_get menus i ≡ Some menu → slice_get (menus_of menus) i ≡ Some menu.items
+menu_at [] i menu there = absurd (cc)
+menu_at (m ∷ menus) zero menu there = ap (λ (m : Kept). Some m.items) (at_same (Some m) m menu refl there)
+menu_at (m ∷ menus) (suc i) menu there = menu_at menus i menu there
+
+kept_at : (menus : List Kept) (i : ℕ) (menu : Menu) → slice_get (menus_of menus) i ≡ Some menu → (kept : Kept) × (slice_get menus i ≡ Some kept) × (kept.items ≡ menu)
+kept_at [] i menu there = absurd (cc)
+kept_at (m ∷ menus) zero menu there = (m, refl, at_same (Some m.items) m.items menu refl there)
+kept_at (m ∷ menus) (suc i) menu there = kept_at menus i menu there
+
+pub length-menus_of : (menus : List Kept) → length (menus_of menus) ≡ length menus
+length-menus_of menus = length-map {A = Kept} {B = Menu} menus (λ (m : Kept). m.items)
+
+pub menus_all : (f : FoldValue) (x : Bricks) (k : ℕ) (menus : List Kept) (n : ℕ) → n ≡ length f.program.bricks → MenusUpTo f x k menus n → AreMenus f x k (menus_of menus)
+menus_all f x k menus n all so_far = record {
+  size = length-menus_of menus ∙ so_far.size ∙ all;
+  each = λ i b v menu brick at there.
+      let kept = kept_at menus i menu there in
+      subst (λ m. IsBrickMenu f k b v m) kept.2 (so_far.each i b v kept.0 brick at kept.1);
+}
+
+-- a menu has at most as many moves as there are sums
+pub menu_short : (f : FoldValue) (k : ℕ) (b : Brick) (v : Vector) (menu : Menu) → IsBrickMenu f k b v menu → length menu ≤ length f.sums
+menu_short f k b v menu is = by (length menu) refl
+  where
+    above : (i : ℕ) (m : PricedMove) → slice_get menu i ≡ Some m → i ≤ m.place
+    above zero m there = omega arith
+    above (suc i) m there =
+        let before : (m : PricedMove) × (slice_get menu i ≡ Some m) =
+        (get_or menu i m, slice_get-get_or menu i m (omega (arith, slice_get_within menu (suc i) m there))) in
+        let low = above i before.0 before.1 in
+        let next = is.moves.rising i (suc i) before.0 m (omega arith) before.1 there in
+        omega (arith, low, next)
+
+    by : (n : ℕ) → length menu ≡ n → length menu ≤ length f.sums
+    by zero size = omega (arith, size)
+    by (suc n) size =
+        let none : PricedMove = record { place = 0; change = pos 0 } in
+        let there = slice_get-get_or menu n none (omega (arith, size)) in
+        let high = above n (get_or menu n none) there in
+        let low = is.low n none (omega (arith, size)) in
+        omega (arith, size, high, low)

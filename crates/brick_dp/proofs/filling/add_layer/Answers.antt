@@ -1,0 +1,1 @@
+use Rattle.brick_dp.proofs.filling.add_layer.Goals as goal

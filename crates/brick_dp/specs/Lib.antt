@@ -1,0 +1,5 @@
+pub mod Changes
+pub mod Menus
+pub mod Ends
+pub mod Tables
+pub mod Answers

@@ -1,0 +1,26 @@
+-- The menus of the bricks of a fold: their moves within the bounds, each with what it changes the cost by.
+use Rattle.std.specs.Prelude.{◌≡◌, ℕ, ◌*◌, ◌<◌, ◌≤◌, unsigned_abs, List, length, map, All, Some, Vec, slice_get}
+use Rattle.std.specs.declared.alloc.Global.{Global}
+use Rattle.lattice_theory.specs.Vectors.{Vector}
+use Rattle.lattice_theory.specs.SignedSums.{vectors}
+use Rattle.fold_theory.specs.Programs.{Brick, Bricks}
+use Rattle.fold_program.specs.Refusals.{brick_magnitude}
+use Rattle.run_theory.specs.Folds.{FoldValue}
+use Rattle.sieve_laws.specs.declared.PricedMove.{PricedMove}
+use Rattle.sieve_laws.specs.Sieve.{Menu, IsMenu}
+
+-- the menu of a brick at the vector v, whose changes are at most twice the brick's magnitude
+pub record IsBrickMenu (f : FoldValue) (k : ℕ) (b : Brick) (v : Vector) (menu : Menu) : Type 0 where
+  pub moves : IsMenu f.phase (vectors f.sums) k b v menu
+  pub low : All (λ m. m.place < length f.sums) menu
+  pub small : All (λ m. unsigned_abs m.change ≤ 2 * brick_magnitude b) menu
+
+-- the menus of all bricks at a point
+pub record AreMenus (f : FoldValue) (x : Bricks) (k : ℕ) (menus : List Menu) : Type 0 where
+  pub size : length menus ≡ length f.program.bricks
+  pub each : (i : ℕ) (b : Brick) (v : Vector) (menu : Menu) → slice_get f.program.bricks i ≡ Some b → slice_get x i ≡ Some v →
+      slice_get menus i ≡ Some menu → IsBrickMenu f k b v menu
+
+-- the menus in their lists
+abbrev pub menus_of : List (Vec PricedMove Global) → List Menu
+menus_of menus = map (λ (menu : Vec PricedMove Global). menu.items) menus

@@ -1,0 +1,58 @@
+//! What the moves of one brick change the cost by.
+
+ghost use Rattle.std.specs.Prelude.{◌≡◌, ◌<◌, ◌≤◌, length, unsigned_abs, IfOk};
+ghost use Rattle.fold_theory.specs.Programs.{IsWithin, brick_cost};
+ghost use Rattle.fold_program.specs.Places.{OfBrick};
+ghost use Rattle.fold_program.specs.Refusals.{brick_magnitude};
+ghost use Rattle.brick_dp.specs.Changes.{IsChange, ForBrick};
+
+use crate::folds::Fold;
+use fold_program::{Phase, Program};
+use std::alloc::{AllocError, Global};
+use step_targets::target;
+
+/// What one move of a brick changes the cost by, where it stays within the bounds.
+pub(crate) fn change(
+    alloc: Global,
+    fold: &Fold,
+    brick: u32,
+    at: &[i64],
+    part: &[i64],
+    k: u32,
+) -> Result<Option<i128>, AllocError>
+    requires from { 1 ≤ brick }
+    requires to { brick ≤ length fold.now.program.bricks }
+    requires within { ForBrick fold.now.program brick (λ b. IsWithin b at.now) }
+    requires size { length at.now ≡ fold.now.program.link.cols }
+    requires width { length part.now ≡ fold.now.program.link.cols }
+    requires short { k < 64 }
+    ensures { IfOk result (λ c. OfBrick fold.now.program brick (λ b. IsChange fold.now.phase k b at.now part.now c)) }
+{
+    let program = fold.program();
+    prove!(brick <= program.n());
+    let (lower, upper) = (program.lower_row(brick), program.upper_row(brick));
+    let Some(end) = target(alloc, lower, upper, at, part, k)? else {
+        return Ok(None);
+    };
+    match fold.phase() {
+        Phase::Counted => Ok(Some(0)),
+        Phase::Closed => Ok(Some(cost_of(program, brick, &end) - cost_of(program, brick, at))),
+    }
+}
+
+/// The cost of a brick at a vector within its bounds: at most the magnitude of its costs.
+fn cost_of(program: &Program, brick: u32, vector: &[i64]) -> i128
+    requires from { 1 ≤ brick }
+    requires to { brick ≤ length program.now.bricks }
+    requires width { length vector.now ≡ program.now.link.cols }
+    requires within { ForBrick program.now brick (λ b. IsWithin b vector.now) }
+    ensures cost { OfBrick program.now brick (λ b. result ≡ brick_cost b vector.now) }
+    ensures small { OfBrick program.now brick (λ b. unsigned_abs result ≤ brick_magnitude b) }
+{
+    prove!(brick <= program.n());
+    let mut cost = 0i128;
+    for col in 1..=program.t() {
+        cost += program.cost_at(brick, col, vector[col as usize - 1]);
+    }
+    cost
+}

@@ -1,0 +1,84 @@
+//! All layers, from the last one to the first.
+
+ghost use Rattle.std.specs.Prelude.{◌≡◌, ◌+◌, ◌*◌, ◌<◌, ◌≤◌, ◌^◌, ◌++◌, ◌∷◌, [], length, All, Contains, Some, IsTrue, IfOk, OnOk, slice_get};
+ghost use Rattle.lattice_theory.specs.Vectors.{is_rising, zeros};
+ghost use Rattle.lattice_theory.specs.SignedSums.{vectors};
+ghost use Rattle.fold_theory.specs.Programs.{AreWithin};
+ghost use Rattle.sieve_laws.specs.Sieve.{MayStay, IsLayerOver, AreTops};
+ghost use Rattle.layer_sieve.specs.Reaching.{AreAtMost, IsFair};
+ghost use Rattle.brick_dp.specs.Menus.{AreMenus};
+ghost use Rattle.brick_dp.specs.Tables.{AreLayers};
+
+use crate::ends::last_layer;
+use crate::folds::Fold;
+use crate::menus::Menus;
+use fold_program::Point;
+use layer_sieve::{Layers, Moves, PricedMove, Targets, lower_by};
+use std::alloc::{AllocError, Global};
+
+/// All layers of walks from a point with steps of `2^k`, the last one first. A brick whose moves can lower no cell
+/// leaves its layer as the one behind it is.
+pub(crate) fn layers(
+    alloc: Global,
+    fold: &Fold,
+    targets: &Targets,
+    menus: &Menus,
+    point: &Point,
+    k: u32,
+    moves: &mut Moves,
+) -> Result<Layers, AllocError>
+    requires rising { IsTrue (is_rising (vectors fold.now.sums)) }
+    requires targets { targets.now ≡ fold.now.sums }
+    requires zero { Contains (vectors fold.now.sums) (zeros fold.now.program.brick.cols) }
+    requires menus { AreMenus fold.now point.now k menus.now }
+    requires within { AreWithin fold.now.program.bricks point.now }
+    requires short { k < 64 }
+    ensures layers { IfOk result (AreLayers fold.now point.now k (length fold.now.program.bricks + 1)) }
+    ensures rising { moves.old ≤ moves.new }
+    ensures counted { moves.new ≤ moves.old + length fold.now.program.bricks * (length fold.now.sums * length fold.now.sums) }
+{
+    let bricks = fold.program().n();
+    let mut layer = last_layer(alloc, fold, point, k)?;
+    let mut layers = Layers::new(alloc, &layer)?;
+    let mut tops = vec![in alloc; None; fold.sums().len() as usize]?;
+    for done in 0..bricks {
+        let menu = menus.of(bricks - done);
+        add_layer(alloc, targets, menu, &mut layers, done, &mut layer, &mut tops, moves)?;
+    }
+    Ok(layers)
+}
+
+/// Adds the layer over the last one, which is number `last`. It stands in `layer`, as does the new one afterwards;
+/// `tops` has bounds for the moves over it.
+fn add_layer(
+    alloc: Global,
+    targets: &Targets,
+    menu: &[PricedMove],
+    layers: &mut Layers,
+    last: u32,
+    layer: &mut [Option<i128>],
+    tops: &mut [Option<i128>],
+    moves: &mut Moves,
+) -> Result<(), AllocError>
+    requires rising { IsTrue (is_rising (vectors targets.now)) }
+    requires fair { All (IsFair (length targets.now)) menu.now }
+    requires size { length layer.old ≡ length targets.now }
+    requires small { AreAtMost (2 ^ 122) layer.old }
+    requires stays { MayStay (vectors targets.now) menu.now layer.old }
+    requires count { length layers.old ≡ last + 1 }
+    requires last { slice_get layers.old last ≡ Some layer.old }
+    requires tops { AreTops (vectors targets.now) layer.old tops.old }
+    ensures over { IsLayerOver (vectors targets.now) menu.now layer.old layer.new }
+    ensures added { OnOk result (layers.new ≡ layers.old ++ layer.new ∷ []) }
+    ensures tops { OnOk result (AreTops (vectors targets.now) layer.new tops.new) }
+    ensures rising { moves.old ≤ moves.new }
+    ensures counted { moves.new ≤ moves.old + length menu.now * length targets.now }
+{
+    if lower_by(targets, menu, layers.get(last), layer, tops, moves) {
+        layers.push(alloc, layer)?;
+        tops.fill(None);
+    } else {
+        layers.repeat()?;
+    }
+    Ok(())
+}
