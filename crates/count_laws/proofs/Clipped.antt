@@ -52,6 +52,7 @@ abbrev pub clipped : ℕ → Vector → ℕ
 clipped most [] = 0
 clipped most (a ∷ v) = min most (unsigned_abs a) + clipped most v
 
+-- each entry counts at most the bound
 pub clipped_most : (most : ℕ) (v : Vector) → clipped most v ≤ length v * most
 clipped_most most [] = omega arith
 clipped_most most (a ∷ v) =
@@ -59,14 +60,15 @@ clipped_most most (a ∷ v) =
 
 -- what is left over a part counts no more
 pub clipped_no_more : (most : ℕ) (u v : Vector) → u ⊑ v → clipped most (sub v u) ≤ clipped most v
-clipped_no_more most [] [] h = omega arith
-clipped_no_more most [] (b ∷ v) h = absurd (cc)
-clipped_no_more most (a ∷ u) [] h = absurd (cc)
-clipped_no_more most (a ∷ u) (b ∷ v) h =
-    let p = and_true (is_between a b) (conforms u v) h in
+clipped_no_more most [] [] below = omega arith
+clipped_no_more most [] (b ∷ v) below = absurd (cc)
+clipped_no_more most (a ∷ u) [] below = absurd (cc)
+clipped_no_more most (a ∷ u) (b ∷ v) below =
+    let p = and_true (is_between a b) (conforms u v) below in
     omega (arith, entry_no_more most a b p.0, clipped_no_more most u v p.1)
 
 module _ (most m : ℕ) (some : 1 ≤ m) where
+  -- and less over the greatest multiple of a narrow part
   pub clipped_less : (u v : Vector) → IsNarrow most u → u ⊑ v → scale (pos m) u ⊑ v →
       conforms (scale (pos (suc m)) u) v ≡ false → suc (clipped most (sub v (scale (pos m) u))) ≤ clipped most v
   clipped_less [] [] narrow below fits over = absurd (cc)
@@ -82,9 +84,9 @@ module _ (most m : ℕ) (some : 1 ≤ m) where
           is_between a b ≡ true → is_between (pos m *ℤ a) b ≡ true → scale (pos m) u ⊑ v →
           (conforms (scale (pos (suc m)) u) v ≡ false → suc (clipped most (sub v (scale (pos m) u))) ≤ clipped most v) →
           suc (clipped most (sub (b ∷ v) (scale (pos m) (a ∷ u)))) ≤ clipped most (b ∷ v)
-      by true e k part here rest further =
-          omega (arith, entry_no_more most (pos m *ℤ a) b here, further k)
-      by false e k part here rest further =
+      by true e fails part here rest further =
+          omega (arith, entry_no_more most (pos m *ℤ a) b here, further fails)
+      by false e fails part here rest further =
           omega (
             arith,
             entry_less most m a b some narrow.0 part here e,
@@ -102,6 +104,7 @@ abbrev pub all_clipped : ℕ → List Vector → ℕ
 all_clipped most [] = 0
 all_clipped most (d ∷ ds) = clipped most d + all_clipped most ds
 
+-- each entry of each vector counts at most the bound
 pub all_clipped_most : (most t : ℕ) (ds : List Vector) → AreSized t ds → all_clipped most ds ≤ (length ds * t) * most
 all_clipped_most most t [] sized = omega arith
 all_clipped_most most t (d ∷ ds) sized =
@@ -114,16 +117,18 @@ all_clipped_most most t (d ∷ ds) sized =
       next,
     )
 
+-- what is left over parts counts no more
 pub all_no_more : (most : ℕ) (us ds : List Vector) → all_zip conforms us ds ≡ true →
     all_clipped most (back ds us) ≤ all_clipped most ds
-all_no_more most [] [] h = omega arith
-all_no_more most [] (d ∷ ds) h = absurd (cc)
-all_no_more most (u ∷ us) [] h = absurd (cc)
-all_no_more most (u ∷ us) (d ∷ ds) h =
-    let p = and_true (conforms u d) (all_zip conforms us ds) h in
+all_no_more most [] [] passes = omega arith
+all_no_more most [] (d ∷ ds) passes = absurd (cc)
+all_no_more most (u ∷ us) [] passes = absurd (cc)
+all_no_more most (u ∷ us) (d ∷ ds) passes =
+    let p = and_true (conforms u d) (all_zip conforms us ds) passes in
     omega (arith, clipped_no_more most u d p.0, all_no_more most us ds p.1)
 
 module _ (most m : ℕ) (some : 1 ≤ m) where
+  -- and less over the greatest multiple of narrow parts
   pub all_less : (h ds : List Vector) → AllByRecursion (IsNarrow most) h → all_zip conforms h ds ≡ true →
       all_zip conforms (times m h) ds ≡ true → all_zip conforms (times (suc m) h) ds ≡ false →
       suc (all_clipped most (back ds (times m h))) ≤ all_clipped most ds
@@ -151,15 +156,16 @@ module _ (most m : ℕ) (some : 1 ≤ m) where
 
 -- the test and the fact
 pub all_below : (us ds : List Vector) → all_zip conforms us ds ≡ true → AllZip ◌⊑◌ us ds
-all_below [] [] h = tt
-all_below [] (d ∷ ds) h = absurd (cc)
-all_below (u ∷ us) [] h = absurd (cc)
-all_below (u ∷ us) (d ∷ ds) h =
-    let p = and_true (conforms u d) (all_zip conforms us ds) h in (p.0, all_below us ds p.1)
+all_below [] [] passes = tt
+all_below [] (d ∷ ds) passes = absurd (cc)
+all_below (u ∷ us) [] passes = absurd (cc)
+all_below (u ∷ us) (d ∷ ds) passes =
+    let p = and_true (conforms u d) (all_zip conforms us ds) passes in (p.0, all_below us ds p.1)
 
+-- the fact and the test
 pub all_below_test : (us ds : List Vector) → AllZip ◌⊑◌ us ds → all_zip conforms us ds ≡ true
-all_below_test [] [] h = refl
-all_below_test [] (d ∷ ds) h = absurd h
-all_below_test (u ∷ us) [] h = absurd h
-all_below_test (u ∷ us) (d ∷ ds) h =
-    ap (λ t. t && all_zip conforms us ds) h.0 ∙ all_below_test us ds h.1
+all_below_test [] [] below = refl
+all_below_test [] (d ∷ ds) below = absurd below
+all_below_test (u ∷ us) [] below = absurd below
+all_below_test (u ∷ us) (d ∷ ds) below =
+    ap (λ t. t && all_zip conforms us ds) below.0 ∙ all_below_test us ds below.1

@@ -109,6 +109,7 @@ module _ (p : Program) (phase : Phase) (b : Bases) (sums : List Sum) (program : 
   run_part (m ∷ moves) x last start run (suc j) low =
       run_part moves (moved x m.k m.bricks) last (next_start x m start run.0) run.1 j (omega (arith, low))
 
+-- a run has at most as many steps as the bound number times the binary digits of its gain
 pub few_steps : (p : Program) (phase : Phase) (b : Bases) (sums : List Sum) (x last : Bricks) (moves : List Move) →
     IsProgram p → AreBases p b → AreBrickSums p phase b sums → IsStart p phase x →
     IsRun p phase (vectors sums) x moves last →

@@ -22,10 +22,10 @@ module _ (f : ℕ → ℤ) (m : ℕ) (concave : Concave f m) where
 
   -- where the last increment before l + 1 is not negative, nothing before is below the start
   rising : (l : ℕ) → l + 1 ≤ m → f l ≤ℤ f (l + 1) → (j : ℕ) → j ≤ l + 1 → f 0 ≤ℤ f j
-  rising l low up zero k = omega (arith, ints)
-  rising l low up (suc j) k =
-      let before = rising l low up j (omega (arith, k)) in
-      let step = falls j l (l - j) (omega (arith, k)) low in
+  rising l low up zero bound_holds = omega (arith, ints)
+  rising l low up (suc j) bound_holds =
+      let before = rising l low up j (omega (arith, bound_holds)) in
+      let step = falls j l (l - j) (omega (arith, bound_holds)) low in
       let next : suc j ≡ j + 1 = omega arith in
       omega (arith, ints, before, step, up, ap f next)
 

@@ -146,6 +146,7 @@ module _ (p : Program) (phase : Phase) (program : IsProgram p) (x : Bricks) (at_
       both : (a b g : ℕ) → (a + b) * g ≡ a * g + b * g
       both a b g = grind arith
 
+  -- no start is better by more than the bound number times the greatest gain
   pub left_to_gain : (y : Bricks) → IsStart p phase y →
       (phase_cost p phase x -ℤ phase_cost p phase y) ≤ℤ pos (bound_number p zs * most)
   left_to_gain y at_y =

@@ -63,6 +63,7 @@ all_widths-cons b bs =
     ap greatest (flat_map-cons (λ b. widths b.lower b.upper) b bs)
     ∙ greatest-append (widths b.lower b.upper) (flat_map (λ b. widths b.lower b.upper) bs)
 
+-- a multiple of a move that is not 0, as a part of the way, is at most the widest bounds
 pub times_fit : (m : ℕ) (bs : List Brick) (x y h : Bricks) → AreWithin bs x → AreWithin bs y →
     AllZip ◌⊑◌ (times m h) (way x y) → 0 < weight h → m ≤ all_widths bs
 times_fit m bs x y [] wx wy below some = absurd (omega (arith, some))

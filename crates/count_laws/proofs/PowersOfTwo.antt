@@ -5,9 +5,11 @@ use Rattle.std.proofs.lemmas.Int.Digits.{length-digits_of_step}
 use Rattle.std.proofs.Math.Nat.{pow-suc}
 use Rattle.run_theory.specs.Digits.{binary_digits}
 
+-- a power is twice the one before
 pub power-suc : (k : ℕ) → 2 ^ (suc k) ≡ 2 ^ k + 2 ^ k
 power-suc k = omega (arith, pow-suc 2 k)
 
+-- each power is at least 1
 pub power_some : (k : ℕ) → 1 ≤ 2 ^ k
 power_some zero = omega arith
 power_some (suc k) = omega (arith, power-suc k, power_some k)
@@ -23,6 +25,7 @@ digits_above (suc most) (suc n) low =
     length-digits_of_step 2 (suc n) (omega arith) (omega arith) ∙ omega arith in
     omega (arith, rest, ap (λ k. 2 ^ k) size, power-suc (binary_digits h))
 
+-- a number is less than the power with its digits as exponent
 pub less_than_power : (n : ℕ) → n < 2 ^ binary_digits n
 less_than_power n = digits_above n n (omega arith)
 

@@ -57,8 +57,8 @@ fewer : (a m : ℕ) → a ≤ m → is_between (pos a) (pos m) ≡ true
 fewer a m low = grind (arith, nat_tests, ints)
 
 pub fewer_below : (a m : ℕ) (d v : Vector) → a ≤ m → scale (pos m) d ⊑ v → scale (pos a) d ⊑ v
-fewer_below a m d v low h =
-    conforms_trans (scale (pos a) d) (scale (pos m) d) v (scale-below (pos a) (pos m) d (fewer a m low)) h
+fewer_below a m d v low below =
+    conforms_trans (scale (pos a) d) (scale (pos m) d) v (scale-below (pos a) (pos m) d (fewer a m low)) below
 
 -- ---- points
 

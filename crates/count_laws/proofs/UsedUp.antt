@@ -76,10 +76,10 @@ module _ (p : Program) (zs : List Vector) where
 -- ---- the greatest multiple of a piece that is a part of the way
 
 weight_below : (us ds : List Vector) → AllZip ◌⊑◌ us ds → weight us ≤ weight ds
-weight_below [] [] h = omega arith
-weight_below [] (d ∷ ds) h = absurd h
-weight_below (u ∷ us) [] h = absurd h
-weight_below (u ∷ us) (d ∷ ds) h = omega (arith, norm_below u d h.0, weight_below us ds h.1)
+weight_below [] [] below = omega arith
+weight_below [] (d ∷ ds) below = absurd below
+weight_below (u ∷ us) [] below = absurd below
+weight_below (u ∷ us) (d ∷ ds) below = omega (arith, norm_below u d below.0, weight_below us ds below.1)
 
 -- the order of two moves back
 pub back_swap : (y x h : Bricks) → back (back y h) x ≡ back (back y x) h

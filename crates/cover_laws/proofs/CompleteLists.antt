@@ -101,9 +101,9 @@ numbered a (suc n) j from to = elim (cases_eq a j) [
 
 -- what the criterion tests of each member
 pub signed_element : (m : Matrix) (z : Vector) → is_signed_element m z ≡ true → IsNonzeroElement m z
-signed_element m z h =
+signed_element m z passes =
     let v = take m.cols z in
-    let p = and_true (leads_positive z && nat_eq (length z) (width m)) (same (drop m.cols z) (product m v)) h in
+    let p = and_true (leads_positive z && nat_eq (length z) (width m)) (same (drop m.cols z) (product m v)) passes in
     let q = and_true (leads_positive z) (nat_eq (length z) (width m)) p.0 in
     let inside : InLattice m z = record {
       size = nat_eq_true (length z) (width m) q.1;
@@ -119,13 +119,13 @@ record IsComplete (m : Matrix) (basis : List Vector) : Type 0 where
 
 -- all but the second of four tests
 four_true : (p q r s : Bool) → (p && q && r && s) ≡ true → (p ≡ true) × (r ≡ true) × (s ≡ true)
-four_true p q r s h =
-    let last = and_true (p && q && r) s h in
+four_true p q r s passes =
+    let last = and_true (p && q && r) s passes in
     let third = and_true (p && q) r last.0 in
     ((and_true p q third.0).0, third.1, last.1)
 
 criterion : (m : Matrix) (basis : List Vector) → is_complete_for m basis ≡ true → IsComplete m basis
-criterion m basis h = record {
+criterion m basis complete = record {
   elements = elements_of basis pass.0;
   units = λ j low.
       list_all_at unit_test (numbers_from 0 m.cols) j pass.1 (numbered 0 m.cols j (omega arith) (omega arith));
@@ -150,13 +150,13 @@ criterion m basis h = record {
     units = list_all unit_test (numbers_from 0 m.cols)
 
     pass : (signed ≡ true) × (units ≡ true) × (list_all pairs_test basis ≡ true)
-    pass = four_true signed (is_rising basis) units (list_all pairs_test basis) h
+    pass = four_true signed (is_rising basis) units (list_all pairs_test basis) complete
 
     elements_of : (vs : List Vector) → list_all (is_signed_element m) vs ≡ true →
         AllByRecursion (IsNonzeroElement m) vs
-    elements_of [] k = tt
-    elements_of (z ∷ vs) k =
-        let p = and_true (is_signed_element m z) (list_all (is_signed_element m) vs) k in
+    elements_of [] passes = tt
+    elements_of (z ∷ vs) passes =
+        let p = and_true (is_signed_element m z) (list_all (is_signed_element m) vs) passes in
         (signed_element m z p.0, elements_of vs p.1)
 
 -- ---- the laws
@@ -164,17 +164,17 @@ criterion m basis h = record {
 -- each member of a complete list is an element of the lattice, and its first part is not 0
 pub complete_elements : (m : Matrix) (basis : List Vector) → is_complete_for m basis ≡ true →
     All (IsNonzeroElement m) basis
-complete_elements m basis h = All-from_recursion (IsNonzeroElement m) basis (criterion m basis h).elements
+complete_elements m basis complete = All-from_recursion (IsNonzeroElement m) basis (criterion m basis complete).elements
 
 -- each element of the lattice is a conformal sum of signed members of a complete list
 pub complete_conformal : (m : Matrix) (basis : List Vector) → is_complete_for m basis ≡ true →
     (z : Vector) → InLattice m z → ConformalSum (width m) basis z
-complete_conformal m basis h z inside =
+complete_conformal m basis complete z inside =
     conformal_sum (width m) basis (pairs_light (width m) basis c.pairs) z
     (subst (Spanned (width m) basis) (sym (is_element m z inside)) (spans m basis units 0 (take m.cols z) size))
   where
     c : IsComplete m basis
-    c = criterion m basis h
+    c = criterion m basis complete
 
     size : 0 + length (take m.cols z) ≡ m.cols
     size = omega (arith, first_size m z inside)
@@ -187,8 +187,8 @@ complete_conformal m basis h z inside =
 
 -- a complete list covers its lattice
 pub complete_covers : (m : Matrix) (basis : List Vector) → is_complete_for m basis ≡ true → Covers m basis
-complete_covers m basis h y inside nonzero =
-    let c = complete_conformal m basis h y inside in first c.0.terms c.0.signed c.0.sum c.1
+complete_covers m basis complete y inside nonzero =
+    let c = complete_conformal m basis complete y inside in first c.0.terms c.0.signed c.0.sum c.1
   where
     first : (es : List Vector) → AreTerms (width m) basis es → sum_of (width m) es ≡ y →
         AllByRecursion (λ e. e ⊑ y) es → IsReducible basis y

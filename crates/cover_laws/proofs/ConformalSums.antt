@@ -1,12 +1,12 @@
 -- Sums of signed members of a list. Where two terms clash, and the sum of the two is one of lighter terms, the terms
 -- can be changed for lighter ones with the same sum, until none clash; then each term is below the sum.
-use Rattle.std.proofs.Common.{◌≡◌, ℕ, zero, suc, ◌+◌, ◌<◌, Bool, true, false, List, ◌∷◌, refl, ap, arith, sym, ◌∙◌, ◌⊎◌, inl, inr, subst, []}
+use Rattle.std.proofs.Common.{◌≡◌, ℕ, zero, suc, ◌+◌, ◌<◌, false, List, ◌∷◌, refl, ap, arith, sym, ◌∙◌, inl, inr, subst, []}
 use Rattle.lattice_theory.specs.Vectors.{Vector, norm1, add}
 use Rattle.lattice_laws.proofs.Conformal.{agree}
 use Rattle.lattice_laws.proofs.Sums.{add_assoc_v, add_swap}
 use Rattle.lattice_laws.proofs.Agreement.{norm_clash}
 use Rattle.lattice_laws.specs.VectorLists.{sum_of, weight}
-use Rattle.lattice_laws.proofs.VectorLists.{weight_append, AgreesWithAll, AreAgreeing, agreeing_below}
+use Rattle.lattice_laws.proofs.VectorLists.{weight_append, agreeing_below, ClashesWithOne, ClashingPair, agreeing_or_clashing}
 use Rattle.cover_laws.specs.ConformalSums.{IsTerm, AreTerms, Spanned, ConformalSum}
 use Rattle.cover_laws.proofs.Terms.{Lightly, spanned_add, terms_sized}
 
@@ -36,65 +36,63 @@ record Clash (n : ℕ) (basis es : List Vector) : Type 0 where
   sum : sum_of n es ≡ add one (add two (sum_of n others))
   weighs : weight es ≡ norm1 one + (norm1 two + weight others)
 
+-- of a term that clashes with one of the terms
 partner_of : (n : ℕ) (basis : List Vector) (e : Vector) (es : List Vector) → AreTerms n basis es →
-    AgreesWithAll e es ⊎ Partner n basis e es
-partner_of n basis e [] s = inl tt
-partner_of n basis e (f ∷ es) s = by (agree e f) refl (partner_of n basis e es s.1)
-  where
-    by : (t : Bool) → agree e f ≡ t → AgreesWithAll e es ⊎ Partner n basis e es →
-        AgreesWithAll e (f ∷ es) ⊎ Partner n basis e (f ∷ es)
-    by false p r = inr (record {
-      term = f;
-      others = es;
-      signed = s.0;
-      rest = s.1;
-      clash = p;
-      sum = refl;
-      weighs = refl;
-    })
-    by true p (inl all) = inl (p, all)
-    by true p (inr q) = inr (record {
+    ClashesWithOne e es → Partner n basis e es
+partner_of n basis e [] signed one = absurd one
+partner_of n basis e (f ∷ es) signed (inl clash) = record {
+  term = f;
+  others = es;
+  signed = signed.0;
+  rest = signed.1;
+  clash = clash;
+  sum = refl;
+  weighs = refl;
+}
+partner_of n basis e (f ∷ es) signed (inr one) =
+    let q = partner_of n basis e es signed.1 one in
+    record {
       term = q.term;
       others = f ∷ q.others;
       signed = q.signed;
-      rest = (s.0, q.rest);
+      rest = (signed.0, q.rest);
       clash = q.clash;
       sum = ap (add f) q.sum ∙ add_swap f q.term (sum_of n q.others);
       weighs = omega (arith, q.weighs);
-    })
+    }
 
-clash_of : (n : ℕ) (basis es : List Vector) → AreTerms n basis es → AreAgreeing es ⊎ Clash n basis es
-clash_of n basis [] s = inl tt
-clash_of n basis (e ∷ es) s = by (partner_of n basis e es s.1) (clash_of n basis es s.1)
-  where
-    by : AgreesWithAll e es ⊎ Partner n basis e es → AreAgreeing es ⊎ Clash n basis es →
-        AreAgreeing (e ∷ es) ⊎ Clash n basis (e ∷ es)
-    by (inr q) r = inr (record {
+-- of terms of which two clash
+clash_of : (n : ℕ) (basis es : List Vector) → AreTerms n basis es → ClashingPair es → Clash n basis es
+clash_of n basis [] signed pair = absurd pair
+clash_of n basis (e ∷ es) signed (inl one) =
+    let q = partner_of n basis e es signed.1 one in
+    record {
       one = e;
       two = q.term;
       others = q.others;
-      signed_one = s.0;
+      signed_one = signed.0;
       signed_two = q.signed;
       rest = q.rest;
       clash = q.clash;
       sum = ap (add e) q.sum;
       weighs = omega (arith, q.weighs);
-    })
-    by (inl all) (inl pairs) = inl (all, pairs)
-    by (inl all) (inr c) = inr (record {
+    }
+clash_of n basis (e ∷ es) signed (inr pair) =
+    let c = clash_of n basis es signed.1 pair in
+    record {
       one = c.one;
       two = c.two;
       others = e ∷ c.others;
       signed_one = c.signed_one;
       signed_two = c.signed_two;
-      rest = (s.0, c.rest);
+      rest = (signed.0, c.rest);
       clash = c.clash;
       sum =
           ap (add e) c.sum
           ∙ add_swap e c.one (add c.two (sum_of n c.others))
           ∙ ap (add c.one) (add_swap e c.two (sum_of n c.others));
       weighs = omega (arith, c.weighs);
-    })
+    }
 
 -- ---- the exchange
 
@@ -124,9 +122,10 @@ conformal_sum n basis pairs z s =
     settled : (bound : ℕ) (es : List Vector) → AreTerms n basis es → weight es < bound →
         ConformalSum n basis (sum_of n es)
     settled zero es t light = absurd (omega arith)
-    settled (suc bound) es t light = elim (clash_of n basis es t) [
+    settled (suc bound) es t light = elim (agreeing_or_clashing es) [
       | inl all ↦ (record { terms = es; signed = t; sum = refl }, agreeing_below n es (terms_sized n basis es t) all)
-      | inr c ↦
+      | inr pair ↦
+          let c = clash_of n basis es t pair in
           let r = exchanged n basis es c (pairs c.one c.two c.signed_one c.signed_two) in
           subst (ConformalSum n basis) r.0.sum (settled bound r.0.terms r.0.signed (omega (arith, r.1, light)))
     ]

@@ -28,17 +28,17 @@ none_below (m ∷ basis) z e none signed below =
     by : (s t : Bool) → conforms m z ≡ s → conforms (opposite m) z ≡ t →
         cond s (Some m) (cond t (Some (opposite m)) (first_below basis z)) ≡ None →
         (first_below basis z ≡ None → IsSigned basis e → ⊥) → IsSigned (m ∷ basis) e → ⊥
-    by true t p q k rest i = absurd (cc)
-    by false true p q k rest i = absurd (cc)
-    by false false p q k rest (inl c) = elim (contains_cases m basis e c) [
+    by true t p q first rest i = absurd (cc)
+    by false true p q first rest i = absurd (cc)
+    by false false p q first rest (inl c) = elim (contains_cases m basis e c) [
       | inl same ↦ not_both (conforms e z) below (ap (λ v. conforms v z) (sym same) ∙ p)
-      | inr d ↦ rest k (inl d)
+      | inr d ↦ rest first (inl d)
     ]
-    by false false p q k rest (inr c) = elim (contains_cases m basis (opposite e) c) [
+    by false false p q first rest (inr c) = elim (contains_cases m basis (opposite e) c) [
       | inl same ↦
           not_both (conforms e z) below
           (ap (λ v. conforms v z) (sym (opposite-opposite e) ∙ ap opposite (sym same)) ∙ q)
-      | inr d ↦ rest k (inr d)
+      | inr d ↦ rest first (inr d)
     ]
 
 -- elements that are not 0, and the list of them covers the lattice

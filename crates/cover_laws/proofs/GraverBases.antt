@@ -85,11 +85,13 @@ module _ (m : Matrix) where
             is_element m y inside ∙ ap (element m) is;
       }
 
+-- each vector of the kernel is a Graver element that leads positive
 pub kernel_sound : (m : Matrix) (basis : List Vector) → IsSlackBasis m basis → All (λ v. IsGraverElement m v × IsTrue (leads_positive v)) (kernel m.cols basis)
 kernel_sound m basis slack =
     All-from_recursion (λ v. IsGraverElement m v × IsTrue (leads_positive v)) (kernel m.cols basis)
     (sound_from m basis (recursion_from_All (λ z. IsMinimal m z × IsTrue (leads_positive z)) basis slack.sound))
 
+-- each such element is in the kernel
 pub kernel_complete : (m : Matrix) (basis : List Vector) (v : Vector) → IsSlackBasis m basis → IsGraverElement m v → IsTrue (leads_positive v) → Contains (kernel m.cols basis) v
 kernel_complete m basis v slack graver leads =
     let first : take m.cols (element m v) ≡ v = take_at v (product m v) m.cols graver.member.size in

@@ -36,6 +36,7 @@ in_kernel cols basis z listed none =
     mapped (take cols) (filter (λ y. is_zero (drop cols y)) basis) z
     (filtered (λ y. is_zero (drop cols y)) basis z listed none)
 
+-- each vector of the kernel of a list of elements is a generator
 pub kernel_generators : (m : Matrix) (basis : List Vector) → All (IsNonzeroElement m) basis →
     AllByRecursion (IsGenerator m) (kernel m.cols basis)
 kernel_generators m basis elements = each_member (IsGenerator m) (kernel m.cols basis) (λ v listed.
@@ -49,6 +50,7 @@ pub complete_generators : (m : Matrix) (basis : List Vector) → is_complete_for
     AllByRecursion (IsGenerator m) (kernel m.cols basis)
 complete_generators m basis complete = kernel_generators m basis (complete_elements m basis complete)
 
+-- the generators of a complete list have an entry for each column
 pub gens_sized : (m : Matrix) (basis : List Vector) → is_complete_for m basis ≡ true →
     AreSized m.cols (kernel m.cols basis)
 gens_sized m basis complete =

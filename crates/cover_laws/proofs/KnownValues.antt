@@ -40,10 +40,10 @@ pub opposite_entries : IsNonzeroElement pair (three (pos 1) (minus 1) (pos 0))
 opposite_entries = record { member = record { size = refl; image = refl }; nonzero = refl }
 
 pub zero_is_none : IsNonzeroElement pair (three (pos 0) (pos 0) (pos 0)) → ⊥
-zero_is_none h = absurd (cc (h.nonzero))
+zero_is_none element = absurd (cc (element.nonzero))
 
 pub wrong_image_is_none : IsNonzeroElement pair (three (pos 1) (minus 1) (pos 1)) → ⊥
-wrong_image_is_none h = absurd (cc (h.member.image))
+wrong_image_is_none element = absurd (cc (element.member.image))
 
 -- ---- conformal sums
 

@@ -24,11 +24,11 @@ pub record Part (m : Matrix) (basis : List Vector) (d : Vector) : Type 0 where
 
 -- the opposite of such an element is one
 pub nonzero_turned : (m : Matrix) (z : Vector) → IsNonzeroElement m (opposite z) → IsNonzeroElement m z
-nonzero_turned m z h = record {
-  member = subst (InLattice m) (opposite-opposite z) (closed_opposite m (opposite z) h.member);
+nonzero_turned m z element = record {
+  member = subst (InLattice m) (opposite-opposite z) (closed_opposite m (opposite z) element.member);
   nonzero =
       ap is_zero (ap (take m.cols) (sym (opposite-opposite z)) ∙ sym (opposite-take m.cols (opposite z)))
-      ∙ opposite_nonzero (take m.cols (opposite z)) h.nonzero;
+      ∙ opposite_nonzero (take m.cols (opposite z)) element.nonzero;
 }
 
 -- the first part of a member is among the first parts
@@ -39,9 +39,9 @@ first_listed n basis e listed = mapped (take n) basis e listed
 -- a complete list has a part of each vector that is not 0
 pub part_of_complete : (m : Matrix) (basis : List Vector) → is_complete_for m basis ≡ true →
     (d : Vector) → length d ≡ m.cols → is_zero d ≡ false → Part m basis d
-part_of_complete m basis h d size nonzero =
+part_of_complete m basis complete d size nonzero =
     let whole : is_zero (element m d) ≡ false = nonzero_by_take m.cols (element m d) (ap is_zero first ∙ nonzero) in
-    let r = complete_covers m basis h (element m d) (element_in m d size) whole in
+    let r = complete_covers m basis complete (element m d) (element_in m d size) whole in
     by r.0 r.1 r.2
   where
     first : take m.cols (element m d) ≡ d
@@ -51,7 +51,7 @@ part_of_complete m basis h d size nonzero =
     parts = first_parts m.cols basis
 
     member : (e : Vector) → Contains basis e → IsNonzeroElement m e
-    member e c = All-contains (IsNonzeroElement m) basis e (complete_elements m basis h) c
+    member e c = All-contains (IsNonzeroElement m) basis e (complete_elements m basis complete) c
 
     found : (e : Vector) → IsNonzeroElement m e → e ⊑ element m d →
         Contains parts (take m.cols e) ⊎ Contains parts (opposite (take m.cols e)) → Part m basis d

@@ -20,9 +20,10 @@ pub record IsFound (basis : List Vector) (z e : Vector) : Type 0 where
   pub signed : IsSigned basis e
   pub below : e ⊑ z
 
+-- what a scan finds is such a vector
 pub found : (basis : List Vector) (z e : Vector) → first_below basis z ≡ Some e → IsFound basis z e
-found [] z e h = absurd (cc)
-found (m ∷ basis) z e h = by (conforms m z) (conforms (opposite m) z) refl refl h (λ k. further (found basis z e k))
+found [] z e first = absurd (cc)
+found (m ∷ basis) z e first = by (conforms m z) (conforms (opposite m) z) refl refl first (λ k. further (found basis z e k))
   where
     further : IsFound basis z e → IsFound (m ∷ basis) z e
     further r = record { signed = wider r.signed; below = r.below }
@@ -34,23 +35,23 @@ found (m ∷ basis) z e h = by (conforms m z) (conforms (opposite m) z) refl ref
     by : (s t : Bool) → conforms m z ≡ s → conforms (opposite m) z ≡ t →
         cond s (Some m) (cond t (Some (opposite m)) (first_below basis z)) ≡ Some e →
         (first_below basis z ≡ Some e → IsFound (m ∷ basis) z e) → IsFound (m ∷ basis) z e
-    by true t p q k rest =
+    by true t p q first rest =
         let same : m ≡ e = cc in
         subst (IsFound (m ∷ basis) z) same (record { signed = inl (contains_head m basis); below = p })
-    by false true p q k rest =
+    by false true p q first rest =
         let same : opposite m ≡ e = cc in
         subst (IsFound (m ∷ basis) z) same (record {
           signed = inr (subst (Contains (m ∷ basis)) (sym (opposite-opposite m)) (contains_head m basis));
           below = q;
         })
-    by false false p q k rest = rest k
+    by false false p q first rest = rest first
 
 -- ---- all turns
 
 module _ (n : ℕ) (basis : List Vector) where
   zero_lightly : (z : Vector) → length z ≡ n → is_zero z ≡ true → Lightly n basis z
-  zero_lightly z size h =
-      subst (Lightly n basis) (ap zeros (sym size) ∙ sym (zeros_is z h)) (none_spanned n basis, omega arith)
+  zero_lightly z size none =
+      subst (Lightly n basis) (ap zeros (sym size) ∙ sym (zeros_is z none)) (none_spanned n basis, omega arith)
 
   -- a multiple of a signed member below z, and what is left of z
   turn_lightly : (z e : Vector) (k : ℕ) → IsTerm n basis e → scale (pos k) e ⊑ z →
@@ -65,8 +66,8 @@ module _ (n : ℕ) (basis : List Vector) where
   -- what is 0 after so many turns is such a sum
   reduced_lightly : (turns : ℕ) (z : Vector) → length z ≡ n → is_zero (reduced_within turns basis z) ≡ true →
       Lightly n basis z
-  reduced_lightly zero z size h = zero_lightly z size h
-  reduced_lightly (suc turns) z size h = by (first_below basis z) refl (λ y left k. reduced_lightly turns y left k) h
+  reduced_lightly zero z size none = zero_lightly z size none
+  reduced_lightly (suc turns) z size none = by (first_below basis z) refl (λ y left k. reduced_lightly turns y left k) none
     where
       turned : Option Vector → Vector
       turned None = z
@@ -75,17 +76,18 @@ module _ (n : ℕ) (basis : List Vector) where
       by : (o : Option Vector) → first_below basis z ≡ o →
           ((y : Vector) → length y ≡ n → is_zero (reduced_within turns basis y) ≡ true → Lightly n basis y) →
           is_zero (turned o) ≡ true → Lightly n basis z
-      by None p next k = zero_lightly z size k
-      by (Some e) p next k =
+      by None p next none = zero_lightly z size none
+      by (Some e) p next none =
           let f = found basis z e p in
           let term : IsTerm n basis e = (length_below e z f.below ∙ size, f.signed) in
           let part = scale (pos (greatest_multiple e z)) e in
           let below : part ⊑ z = greatest_below e z f.below in
           let left : length (sub z part) ≡ n = length_below (sub z part) z (rest_below part z below) ∙ size in
-          turn_lightly z e (greatest_multiple e z) term below (next (sub z part) left k)
+          turn_lightly z e (greatest_multiple e z) term below (next (sub z part) left none)
 
+  -- what reduces to 0 is a sum of signed members that weigh no more
   pub reduces_lightly : (z : Vector) → length z ≡ n → reduces_to_zero basis z ≡ true → Lightly n basis z
-  reduces_lightly z size h = reduced_lightly (norm1 z) z size h
+  reduces_lightly z size reduces = reduced_lightly (norm1 z) z size reduces
 
 -- ---- each two signed members
 
@@ -94,6 +96,7 @@ abbrev pub PairsReduce : List Vector → Type 0
 PairsReduce basis = (a b : Vector) → Contains basis a → Contains basis b →
     (reduces_to_zero basis (add a b) ≡ true) × (reduces_to_zero basis (sub a b) ≡ true)
 
+-- where sums and differences of members reduce to 0, so do sums of signed members
 pub pairs_light : (n : ℕ) (basis : List Vector) → PairsReduce basis → PairsAreLight n basis
 pairs_light n basis reduce a b (la, sa) (lb, sb) = by sa sb
   where

@@ -23,9 +23,11 @@ module _ (n : ℕ) (basis : List Vector) where
   terms_sized [] signed = tt
   terms_sized (e ∷ es) signed = (signed.0.0, terms_sized es signed.1)
 
+  -- a sum of terms has n entries
   pub length-spanned : (z : Vector) → Spanned n basis z → length z ≡ n
   length-spanned z s = ap length (sym s.sum) ∙ length-sum n s.terms (terms_sized s.terms s.signed)
 
+  -- terms of two sums are terms
   pub terms_append : (es fs : List Vector) → AreTerms n basis es → AreTerms n basis fs → AreTerms n basis (es ++ fs)
   terms_append [] fs s t = t
   terms_append (e ∷ es) fs s t = (s.0, terms_append es fs s.1 t)
@@ -40,6 +42,7 @@ module _ (n : ℕ) (basis : List Vector) where
     sum = sum_append n s.terms t.terms (terms_sized t.terms t.signed) ∙ (λ i. add (s.sum i) (t.sum i));
   }
 
+  -- terms with their signs turned are terms
   pub turned_terms : (es : List Vector) → AreTerms n basis es → AreTerms n basis (map opposite es)
   turned_terms [] s = tt
   turned_terms (e ∷ es) s = ((length-opposite e ∙ s.0.0, signed_opposite basis e s.0.1), turned_terms es s.1)
@@ -57,9 +60,11 @@ module _ (n : ℕ) (basis : List Vector) where
   lightly_add y z norms (s, light) (t, also) =
       (spanned_add y z s t, omega (arith, weight_append s.terms t.terms, light, also, norms))
 
+  -- a term is such a sum of itself
   pub term_lightly : (e : Vector) → IsTerm n basis e → Lightly n basis e
   term_lightly e t = (record { terms = e ∷ []; signed = (t, tt); sum = add_zeros e n t.0 }, omega arith)
 
+  -- so is a multiple of such a sum
   pub lightly_times : (k : ℕ) (z : Vector) → Lightly n basis z → Lightly n basis (scale (pos k) z)
   lightly_times zero z l =
       subst (Lightly n basis) (ap zeros (sym (length-spanned z l.0)) ∙ sym (scale_zero z)) (none_spanned, omega arith)
@@ -68,5 +73,6 @@ module _ (n : ℕ) (basis : List Vector) where
       (lightly_add z (scale (pos k) z)
       (omega (arith, ap norm1 (scale_suc k z), norm-scale (suc k) z, norm-scale k z)) l (lightly_times k z l))
 
+  -- and its opposite
   pub lightly_opposite : (z : Vector) → Lightly n basis z → Lightly n basis (opposite z)
   lightly_opposite z (s, light) = (spanned_opposite z s, omega (arith, light, turned_weight s.terms, norm-opposite z))

@@ -11,16 +11,16 @@ use Rattle.std.proofs.lemmas.Int.{ints}
 -- ---- what agrees with two vectors agrees with their sum
 
 agrees_sum : (x y z : ℤ) → agrees x y ≡ true → agrees x z ≡ true → agrees x (y +ℤ z) ≡ true
-agrees_sum x y z h k = grind (arith, nat_tests, ints, times_sum x y z)
+agrees_sum x y z agreeing agreed = grind (arith, nat_tests, ints, times_sum x y z)
 
 pub agree_sum : (u v w : Vector) → agree u v ≡ true → agree u w ≡ true → agree u (add v w) ≡ true
-agree_sum [] [] w h k = refl
-agree_sum [] (b ∷ v) w h k = absurd (cc)
-agree_sum (a ∷ u) [] w h k = absurd (cc)
-agree_sum (a ∷ u) (b ∷ v) [] h k = absurd (cc)
-agree_sum (a ∷ u) (b ∷ v) (c ∷ w) h k =
-    let p = and_true (agrees a b) (agree u v) h in
-    let q = and_true (agrees a c) (agree u w) k in
+agree_sum [] [] w agreeing agreed = refl
+agree_sum [] (b ∷ v) w agreeing agreed = absurd (cc)
+agree_sum (a ∷ u) [] w agreeing agreed = absurd (cc)
+agree_sum (a ∷ u) (b ∷ v) [] agreeing agreed = absurd (cc)
+agree_sum (a ∷ u) (b ∷ v) (c ∷ w) agreeing agreed =
+    let p = and_true (agrees a b) (agree u v) agreeing in
+    let q = and_true (agrees a c) (agree u w) agreed in
     ap (λ t. t && agree u (add v w)) (agrees_sum a b c p.0 q.0) ∙ agree_sum u v w p.1 q.1
 
 pub agree_zeros : (u : Vector) (n : ℕ) → length u ≡ n → agree u (zeros n) ≡ true
@@ -33,16 +33,16 @@ agree_zeros (a ∷ u) (suc n) size = ap (λ t. t && agree u (zeros n)) (agrees_z
 
 -- where s and t agree, parts of s and t add up to a part of s + t
 pub parts_sum : (u v s t : Vector) → u ⊑ s → v ⊑ t → agree s t ≡ true → add u v ⊑ add s t
-parts_sum [] v [] [] h k g = refl
-parts_sum [] v [] (d ∷ t) h k g = absurd (cc)
-parts_sum [] v (c ∷ s) t h k g = absurd (cc)
-parts_sum (a ∷ u) v [] t h k g = absurd (cc)
-parts_sum (a ∷ u) v (c ∷ s) [] h k g = absurd (cc)
-parts_sum (a ∷ u) [] (c ∷ s) (d ∷ t) h k g = absurd (cc)
-parts_sum (a ∷ u) (b ∷ v) (c ∷ s) (d ∷ t) h k g =
-    let p = and_true (is_between a c) (conforms u s) h in
-    let q = and_true (is_between b d) (conforms v t) k in
-    let r = and_true (agrees c d) (agree s t) g in
+parts_sum [] v [] [] below part agreeing = refl
+parts_sum [] v [] (d ∷ t) below part agreeing = absurd (cc)
+parts_sum [] v (c ∷ s) t below part agreeing = absurd (cc)
+parts_sum (a ∷ u) v [] t below part agreeing = absurd (cc)
+parts_sum (a ∷ u) v (c ∷ s) [] below part agreeing = absurd (cc)
+parts_sum (a ∷ u) [] (c ∷ s) (d ∷ t) below part agreeing = absurd (cc)
+parts_sum (a ∷ u) (b ∷ v) (c ∷ s) (d ∷ t) below part agreeing =
+    let p = and_true (is_between a c) (conforms u s) below in
+    let q = and_true (is_between b d) (conforms v t) part in
+    let r = and_true (agrees c d) (agree s t) agreeing in
     ap (λ x. x && conforms (add u v) (add s t)) (between_parts a b c d p.0 q.0 r.0) ∙ parts_sum u v s t p.1 q.1 r.1
 
 -- the sum of two vectors that clash is lighter than the two

@@ -46,9 +46,9 @@ each_member P (v ∷ vs) says =
 -- a test that all pass
 pub list_all_at : {X : Type 0} (test : X → Bool) (xs : List X) (x : X) → list_all test xs ≡ true → Contains xs x →
     test x ≡ true
-list_all_at test [] x h (k, low, e) = absurd (omega arith)
-list_all_at test (y ∷ xs) x h c =
-    let p = and_true (test y) (list_all test xs) h in
+list_all_at test [] x passes (k, low, e) = absurd (omega arith)
+list_all_at test (y ∷ xs) x passes c =
+    let p = and_true (test y) (list_all test xs) passes in
     elim (contains_cases y xs x c) [ inl e ↦ subst (λ v. test v ≡ true) e p.0 | inr d ↦ list_all_at test xs x p.1 d ]
 
 pub list_all_of : {X : Type 0} (test : X → Bool) (xs : List X) → ((x : X) → Contains xs x → test x ≡ true) →

@@ -19,30 +19,30 @@ use Rattle.lattice_laws.proofs.Sums.{add_zeros}
 -- k times a is between 0 and b where it is no larger
 pub between_times : (k : ℕ) (a b : ℤ) → is_between a b ≡ true → k * unsigned_abs a ≤ unsigned_abs b →
     is_between (pos k *ℤ a) b ≡ true
-between_times k (pos a) (pos b) h low = grind (arith, nat_tests, ints)
-between_times k (pos a) (negsuc b) h low = grind (arith, nat_tests, ints)
-between_times k (negsuc a) (pos b) h low = grind (arith, nat_tests, ints)
-between_times k (negsuc a) (negsuc b) h low = grind (arith, nat_tests, ints)
+between_times k (pos a) (pos b) part low = grind (arith, nat_tests, ints)
+between_times k (pos a) (negsuc b) part low = grind (arith, nat_tests, ints)
+between_times k (negsuc a) (pos b) part low = grind (arith, nat_tests, ints)
+between_times k (negsuc a) (negsuc b) part low = grind (arith, nat_tests, ints)
 
 -- what is at most the quotient fits
 fits : (k x y : ℕ) → k ≤ y / suc x → k * suc x ≤ y
-fits k x y h = grind (arith, le-div_iff_mul-le {k = suc x} {x = k} {y = y})
+fits k x y low = grind (arith, le-div_iff_mul-le {k = suc x} {x = k} {y = y})
 
 -- k times e is below v where k is at most each quotient
 scale_below : (k : ℕ) (e v : Vector) → e ⊑ v → AllByRecursion (λ x. k ≤ x) (multiples e v) → scale (pos k) e ⊑ v
-scale_below k [] [] h low = refl
-scale_below k [] (b ∷ v) h low = absurd (cc)
-scale_below k (a ∷ e) [] h low = absurd (cc)
-scale_below k (pos zero ∷ e) (b ∷ v) h low =
-    let p = and_true (is_between (pos zero) b) (conforms e v) h in
+scale_below k [] [] below low = refl
+scale_below k [] (b ∷ v) below low = absurd (cc)
+scale_below k (a ∷ e) [] below low = absurd (cc)
+scale_below k (pos zero ∷ e) (b ∷ v) below low =
+    let p = and_true (is_between (pos zero) b) (conforms e v) below in
     let here = between_times k (pos zero) b p.0 (omega arith) in
     ap (λ t. t && conforms (scale (pos k) e) v) here ∙ scale_below k e v p.1 low
-scale_below k (pos (suc n) ∷ e) (b ∷ v) h low =
-    let p = and_true (is_between (pos (suc n)) b) (conforms e v) h in
+scale_below k (pos (suc n) ∷ e) (b ∷ v) below low =
+    let p = and_true (is_between (pos (suc n)) b) (conforms e v) below in
     let here = between_times k (pos (suc n)) b p.0 (fits k n (unsigned_abs b) low.0) in
     ap (λ t. t && conforms (scale (pos k) e) v) here ∙ scale_below k e v p.1 low.1
-scale_below k (negsuc n ∷ e) (b ∷ v) h low =
-    let p = and_true (is_between (negsuc n) b) (conforms e v) h in
+scale_below k (negsuc n ∷ e) (b ∷ v) below low =
+    let p = and_true (is_between (negsuc n) b) (conforms e v) below in
     let here = between_times k (negsuc n) b p.0 (fits k n (unsigned_abs b) low.0) in
     ap (λ t. t && conforms (scale (pos k) e) v) here ∙ scale_below k e v p.1 low.1
 
@@ -57,10 +57,10 @@ least_each (m ∷ xs) = let r = least_from m xs in (r.0, r.1)
 
 -- the greatest multiple found is below
 pub greatest_below : (e v : Vector) → e ⊑ v → scale (pos (greatest_multiple e v)) e ⊑ v
-greatest_below e v h = scale_below (greatest_multiple e v) e v h (least_each (multiples e v))
+greatest_below e v below = scale_below (greatest_multiple e v) e v below (least_each (multiples e v))
 
 divides : (x y : ℕ) → suc x ≤ y → 1 ≤ y / suc x
-divides x y h = grind (arith, le-div_iff_mul-le {k = suc x} {x = 1} {y = y})
+divides x y low = grind (arith, le-div_iff_mul-le {k = suc x} {x = 1} {y = y})
 
 larger : (a b : ℤ) → is_between a b ≡ true → unsigned_abs a ≤ unsigned_abs b
 larger a b between = grind (arith, nat_tests)
@@ -219,7 +219,7 @@ down_turned m (negsuc k) = grind (arith, ints)
 
 -- a part of a number times another one
 part_times : (a c x : ℤ) → is_between a c ≡ true → is_between (a *ℤ x) (c *ℤ x) ≡ true
-part_times a c x h = between_of (a *ℤ x) (c *ℤ x) (by a c (part_of a c h))
+part_times a c x part = between_of (a *ℤ x) (c *ℤ x) (by a c (part_of a c part))
   where
     by : (a c : ℤ) → IsPart a c → IsPart (a *ℤ x) (c *ℤ x)
     by (pos m) (pos n) p = record {
@@ -236,6 +236,6 @@ part_times a c x h = between_of (a *ℤ x) (c *ℤ x) (by a c (part_of a c h))
 
 -- parts of the number give parts of the multiple
 pub scale-below : (a c : ℤ) (g : Vector) → is_between a c ≡ true → scale a g ⊑ scale c g
-scale-below a c [] h = refl
-scale-below a c (x ∷ g) h =
-    ap (λ t. t && conforms (scale a g) (scale c g)) (part_times a c x h) ∙ scale-below a c g h
+scale-below a c [] part = refl
+scale-below a c (x ∷ g) part =
+    ap (λ t. t && conforms (scale a g) (scale c g)) (part_times a c x part) ∙ scale-below a c g part

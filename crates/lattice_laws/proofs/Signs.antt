@@ -14,13 +14,13 @@ between_refl (pos a) = grind (arith, nat_tests)
 between_refl (negsuc a) = grind (arith, nat_tests)
 
 pub between_trans : (a b c : ℤ) → is_between a b ≡ true → is_between b c ≡ true → is_between a c ≡ true
-between_trans a b c h k = grind (arith, nat_tests, ints)
+between_trans a b c part between = grind (arith, nat_tests, ints)
 
 pub between_antisym : (a b : ℤ) → is_between a b ≡ true → is_between b a ≡ true → a ≡ b
-between_antisym a b h k = grind (arith, nat_tests, ints)
+between_antisym a b part between = grind (arith, nat_tests, ints)
 
 pub between_opposite : (a b : ℤ) → is_between a b ≡ true → is_between (neg_ℤ a) (neg_ℤ b) ≡ true
-between_opposite a b h = grind (arith, nat_tests, ints)
+between_opposite a b part = grind (arith, nat_tests, ints)
 
 -- signs turned on the one side or on the other
 pub between_turned : (a b : ℤ) → is_between a (neg_ℤ b) ≡ is_between (neg_ℤ a) b
@@ -35,10 +35,10 @@ between_turned (negsuc k) (pos (suc n)) = grind (arith, nat_tests, ints)
 between_turned (negsuc k) (negsuc n) = grind (arith, nat_tests, ints)
 
 pub between_rest : (a b : ℤ) → is_between b a ≡ true → is_between (a -ℤ b) a ≡ true
-between_rest a b h = grind (arith, nat_tests, ints)
+between_rest a b part = grind (arith, nat_tests, ints)
 
 pub abs_split : (a b : ℤ) → is_between b a ≡ true → unsigned_abs a ≡ unsigned_abs b + unsigned_abs (a -ℤ b)
-abs_split a b h = grind (arith, nat_tests, ints)
+abs_split a b part = grind (arith, nat_tests, ints)
 
 pub abs_opposite : (a : ℤ) → unsigned_abs (neg_ℤ a) ≡ unsigned_abs a
 abs_opposite (pos zero) = refl
@@ -73,19 +73,19 @@ agrees_same (negsuc n) = grind (arith, nat_tests, ints)
 
 -- a number agrees with its opposite only where it is 0
 pub agrees_own_opposite : (x : ℤ) → agrees x (neg_ℤ x) ≡ true → unsigned_abs x ≡ 0
-agrees_own_opposite (pos zero) h = refl
-agrees_own_opposite (pos (suc n)) h = grind (arith, nat_tests, ints)
-agrees_own_opposite (negsuc n) h = grind (arith, nat_tests, ints)
+agrees_own_opposite (pos zero) agreeing = refl
+agrees_own_opposite (pos (suc n)) agreeing = grind (arith, nat_tests, ints)
+agrees_own_opposite (negsuc n) agreeing = grind (arith, nat_tests, ints)
 
 -- two parts of one number agree
 pub agrees_parts : (a b y : ℤ) → is_between a y ≡ true → is_between b y ≡ true → agrees a b ≡ true
-agrees_parts a b y h k = grind (arith, nat_tests, ints)
+agrees_parts a b y part between = grind (arith, nat_tests, ints)
 
 pub abs_agree : (x y : ℤ) → agrees x y ≡ true → unsigned_abs (x +ℤ y) ≡ unsigned_abs x + unsigned_abs y
-abs_agree x y h = grind (arith, nat_tests, ints)
+abs_agree x y agreeing = grind (arith, nat_tests, ints)
 
 pub between_sum : (x y : ℤ) → agrees x y ≡ true → is_between x (x +ℤ y) ≡ true
-between_sum x y h = grind (arith, nat_tests, ints)
+between_sum x y agreeing = grind (arith, nat_tests, ints)
 
 -- ---- how far two numbers are of opposite sign
 
@@ -98,13 +98,13 @@ pub record IsPart (a b : ℤ) : Type 0 where
   pub downs : down a ≤ down b
 
 pub part_of : (a b : ℤ) → is_between a b ≡ true → IsPart a b
-part_of a b h = record { ups = part_up a b h; downs = part_down a b h }
+part_of a b part = record { ups = part_up a b part; downs = part_down a b part }
   where
     part_up : (a b : ℤ) → is_between a b ≡ true → up a ≤ up b
-    part_up a b h = grind (arith, nat_tests, ints)
+    part_up a b part = grind (arith, nat_tests, ints)
 
     part_down : (a b : ℤ) → is_between a b ≡ true → down a ≤ down b
-    part_down a b h = grind (arith, nat_tests, ints)
+    part_down a b part = grind (arith, nat_tests, ints)
 
 pub one_zero : (a : ℤ) → min (up a) (down a) ≡ 0
 one_zero (pos n) = omega arith
@@ -115,20 +115,20 @@ abs_parts (pos n) = omega arith
 abs_parts (negsuc n) = omega arith
 
 pub clash_none : (a b : ℤ) → clash a b ≡ 0 → agrees a b ≡ true
-clash_none (pos a) (pos b) h = grind (arith, nat_tests, ints)
-clash_none (pos zero) (negsuc b) h = grind (arith, nat_tests, ints)
-clash_none (pos (suc a)) (negsuc b) h = absurd (omega (arith, h))
-clash_none (negsuc a) (pos zero) h = grind (arith, nat_tests, ints)
-clash_none (negsuc a) (pos (suc b)) h = absurd (omega (arith, h))
-clash_none (negsuc a) (negsuc b) h = grind (arith, nat_tests, ints)
+clash_none (pos a) (pos b) same = grind (arith, nat_tests, ints)
+clash_none (pos zero) (negsuc b) same = grind (arith, nat_tests, ints)
+clash_none (pos (suc a)) (negsuc b) same = absurd (omega (arith, same))
+clash_none (negsuc a) (pos zero) same = grind (arith, nat_tests, ints)
+clash_none (negsuc a) (pos (suc b)) same = absurd (omega (arith, same))
+clash_none (negsuc a) (negsuc b) same = grind (arith, nat_tests, ints)
 
 pub clash_some : (a b : ℤ) → 0 < clash a b → agrees a b ≡ false
-clash_some (pos a) (pos b) h = absurd (omega (arith, h))
-clash_some (pos zero) (negsuc b) h = absurd (omega (arith, h))
-clash_some (pos (suc a)) (negsuc b) h = grind (arith, nat_tests, ints)
-clash_some (negsuc a) (pos zero) h = absurd (omega (arith, h))
-clash_some (negsuc a) (pos (suc b)) h = grind (arith, nat_tests, ints)
-clash_some (negsuc a) (negsuc b) h = absurd (omega (arith, h))
+clash_some (pos a) (pos b) some = absurd (omega (arith, some))
+clash_some (pos zero) (negsuc b) some = absurd (omega (arith, some))
+clash_some (pos (suc a)) (negsuc b) some = grind (arith, nat_tests, ints)
+clash_some (negsuc a) (pos zero) some = absurd (omega (arith, some))
+clash_some (negsuc a) (pos (suc b)) some = grind (arith, nat_tests, ints)
+clash_some (negsuc a) (negsuc b) some = absurd (omega (arith, some))
 
 -- ---- parts of sums
 
@@ -136,7 +136,7 @@ pub agrees_zero : (x : ℤ) → agrees x (pos 0) ≡ true
 agrees_zero x = grind (arith, nat_tests, ints)
 
 pub abs_clash : (x y : ℤ) → agrees x y ≡ false → unsigned_abs (x +ℤ y) < unsigned_abs x + unsigned_abs y
-abs_clash x y h = grind (arith, nat_tests, ints)
+abs_clash x y clash = grind (arith, nat_tests, ints)
 
 pub between_of : (a b : ℤ) → IsPart a b → is_between a b ≡ true
 between_of (pos a) (pos b) p = grind (arith, nat_tests, ints, p.ups)
@@ -146,11 +146,11 @@ between_of (negsuc a) (pos b) p = absurd (omega (arith, p.downs))
 between_of (negsuc a) (negsuc b) p = grind (arith, nat_tests, ints, p.downs)
 
 pub no_clash : (a b : ℤ) → agrees a b ≡ true → clash a b ≡ 0
-no_clash a b h = by (clash a b) refl
+no_clash a b agreeing = by (clash a b) refl
   where
     by : (n : ℕ) → clash a b ≡ n → n ≡ 0
     by zero e = refl
-    by (suc n) e = absurd (not_both (agrees a b) h (clash_some a b (omega (arith, e))))
+    by (suc n) e = absurd (not_both (agrees a b) agreeing (clash_some a b (omega (arith, e))))
 
 -- parts of two numbers that do not clash add up to a part of their sum
 sum_part : (a b c d : ℤ) → IsPart a c → IsPart b d → clash c d ≡ 0 → IsPart (a +ℤ b) (c +ℤ d)
@@ -161,8 +161,8 @@ sum_part a b c d p q none = record {
 
 pub between_parts : (a b c d : ℤ) → is_between a c ≡ true → is_between b d ≡ true → agrees c d ≡ true →
     is_between (a +ℤ b) (c +ℤ d) ≡ true
-between_parts a b c d h k g =
-    between_of (a +ℤ b) (c +ℤ d) (sum_part a b c d (part_of a c h) (part_of b d k) (no_clash c d g))
+between_parts a b c d part between agreeing =
+    between_of (a +ℤ b) (c +ℤ d) (sum_part a b c d (part_of a c part) (part_of b d between) (no_clash c d agreeing))
 
 -- 0 is below each number
 pub between_zero : (a : ℤ) → is_between (pos 0) a ≡ true

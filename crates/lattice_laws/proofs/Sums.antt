@@ -87,9 +87,9 @@ zeros_below_sized u n size = subst (λ k. zeros k ⊑ u) size (zeros_below u)
 
 -- below 0 stands only 0
 pub below_zeros : (q : Vector) (n : ℕ) → q ⊑ zeros n → q ≡ zeros n
-below_zeros q n h =
-    let none : norm1 q ≡ 0 = omega (arith, norm_below q (zeros n) h, norm_of_zero (zeros n) (zero-zeros n)) in
-    zeros_is q (norm_none q none) ∙ ap zeros (length_below q (zeros n) h ∙ length-zeros n)
+below_zeros q n below =
+    let none : norm1 q ≡ 0 = omega (arith, norm_below q (zeros n) below, norm_of_zero (zeros n) (zero-zeros n)) in
+    zeros_is q (norm_none q none) ∙ ap zeros (length_below q (zeros n) below ∙ length-zeros n)
 
 -- ---- differences that are 0
 
@@ -103,7 +103,7 @@ sub_itself u n size = zeros_is (sub u u) (norm_none (sub u u) (no_rest u)) ∙ a
 
 -- where the difference is 0, the two are one vector
 pub same_vector : (u v : Vector) → length u ≡ length v → is_zero (sub v u) ≡ true → u ≡ v
-same_vector u v size h =
+same_vector u v size none =
     sym (add_zeros u (length (sub v u)) (sym (length-sub v u (length u) (sym size) refl)))
-    ∙ ap (add u) (sym (zeros_is (sub v u) h))
+    ∙ ap (add u) (sym (zeros_is (sub v u) none))
     ∙ add_sub u v size

@@ -11,20 +11,20 @@ true_or_false true = inl refl
 true_or_false false = inr refl
 
 pub not_both : (b : Bool) → b ≡ true → b ≡ false → ⊥
-not_both b h k = absurd (cc)
+not_both b passes fails = absurd (cc)
 
 pub int_eq_true : (a b : ℤ) → int_eq a b ≡ true → a ≡ b
-int_eq_true a b h = grind (arith, ints)
+int_eq_true a b passes = grind (arith, ints)
 
 pub int_eq_refl : (a : ℤ) → int_eq a a ≡ true
 int_eq_refl a = grind (arith, ints)
 
 pub same_true : (u v : Vector) → same u v ≡ true → u ≡ v
-same_true [] [] h = refl
-same_true [] (b ∷ v) h = absurd (cc)
-same_true (a ∷ u) [] h = absurd (cc)
-same_true (a ∷ u) (b ∷ v) h =
-    let p = and_true (int_eq a b) (same u v) h in
+same_true [] [] passes = refl
+same_true [] (b ∷ v) passes = absurd (cc)
+same_true (a ∷ u) [] passes = absurd (cc)
+same_true (a ∷ u) (b ∷ v) passes =
+    let p = and_true (int_eq a b) (same u v) passes in
     let e : a ≡ b = int_eq_true a b p.0 in
     let r : u ≡ v = same_true u v p.1 in
     cc
@@ -43,19 +43,19 @@ same_or_not u v = elim (true_or_false (same u v)) [
 -- ---- comparisons of numbers
 
 pub le_true : (m n : ℕ) → nat_le m n ≡ true → m ≤ n
-le_true m n h = grind (arith, nat_tests)
+le_true m n passes = grind (arith, nat_tests)
 
 pub lt_true : (m n : ℕ) → nat_lt m n ≡ true → m < n
-lt_true m n h = grind (arith, nat_tests)
+lt_true m n passes = grind (arith, nat_tests)
 
 pub nat_eq_true : (m n : ℕ) → nat_eq m n ≡ true → m ≡ n
-nat_eq_true m n h = grind (arith, nat_tests)
+nat_eq_true m n passes = grind (arith, nat_tests)
 
 pub nat_eq_of : (m n : ℕ) → m ≡ n → nat_eq m n ≡ true
-nat_eq_of m n h = grind (arith, nat_tests)
+nat_eq_of m n same = grind (arith, nat_tests)
 
 pub int_le_true : (a b : ℤ) → int_le a b ≡ true → a ≤ℤ b
-int_le_true a b h = grind (arith, ints)
+int_le_true a b passes = grind (arith, ints)
 
 pub int_le_of : (a b : ℤ) → a ≤ℤ b → int_le a b ≡ true
-int_le_of a b h = grind (arith, ints)
+int_le_of a b low = grind (arith, ints)

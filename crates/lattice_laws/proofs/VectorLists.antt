@@ -1,5 +1,5 @@
 -- Lists of vectors: their sum, their weight, and lists whose vectors agree with each other.
-use Rattle.std.proofs.Common.{◌≡◌, ℕ, ◌+◌, ◌≤◌, List, ◌∷◌, ◌++◌, length, map, refl, ap, arith, sym, ◌∙◌, subst, true, []}
+use Rattle.std.proofs.Common.{◌≡◌, ℕ, ◌+◌, ◌≤◌, List, ◌∷◌, ◌++◌, length, map, refl, ap, arith, sym, ◌∙◌, subst, true, [], Bool, false, ◌⊎◌, inl, inr}
 use Rattle.std.specs.List.{AllByRecursion}
 use Rattle.lattice_theory.specs.Vectors.{Vector, ◌⊑◌, norm1, add, opposite}
 use Rattle.lattice_laws.proofs.Conformal.{length-add, opposite-add, norm-opposite, agree, agree_comm, conforms_trans, below_sum, add_comm_v, agree_parts, norm_agree, norm_sum}
@@ -51,8 +51,8 @@ agree_all n e [] size all = agree_zeros e n size
 agree_all n e (f ∷ es) size all = agree_sum e f (sum_of n es) all.0 (agree_all n e es size all.1)
 
 pub all_below : (u v : Vector) (es : List Vector) → u ⊑ v → AllByRecursion (λ f. f ⊑ u) es → AllByRecursion (λ f. f ⊑ v) es
-all_below u v [] h all = tt
-all_below u v (e ∷ es) h all = (conforms_trans e u v all.0 h, all_below u v es h all.1)
+all_below u v [] below all = tt
+all_below u v (e ∷ es) below all = (conforms_trans e u v all.0 below, all_below u v es below all.1)
 
 -- vectors that agree are below their sum
 pub agreeing_below : (n : ℕ) (es : List Vector) → AreSized n es → AreAgreeing es → AllByRecursion (λ f. f ⊑ sum_of n es) es
@@ -69,8 +69,8 @@ below_agree [] y below = tt
 below_agree (e ∷ es) y below = (with_each e es below.0 below.1, below_agree es y below.1)
   where
     with_each : (e : Vector) (es : List Vector) → e ⊑ y → AllByRecursion (λ f. f ⊑ y) es → AgreesWithAll e es
-    with_each e [] h all = tt
-    with_each e (f ∷ es) h all = (agree_parts e f y h all.0, with_each e es h all.1)
+    with_each e [] below all = tt
+    with_each e (f ∷ es) below all = (agree_parts e f y below all.0, with_each e es below all.1)
 
 -- the norms of vectors that agree add up
 pub agreeing_weight : (n : ℕ) (us : List Vector) → AreSized n us → AreAgreeing us → norm1 (sum_of n us) ≡ weight us
@@ -81,3 +81,37 @@ agreeing_weight n (u ∷ us) sized agreeing =
       norm_agree u (sum_of n us) (agree_all n u us sized.0 agreeing.0),
       agreeing_weight n us sized.1 agreeing.1,
     )
+
+-- ---- vectors that clash
+
+-- u clashes with one of the vectors
+abbrev pub ClashesWithOne : Vector → List Vector → Type 0
+ClashesWithOne u [] = ⊥
+ClashesWithOne u (v ∷ vs) = (agree u v ≡ false) ⊎ ClashesWithOne u vs
+
+-- two of the vectors clash
+abbrev pub ClashingPair : List Vector → Type 0
+ClashingPair [] = ⊥
+ClashingPair (u ∷ us) = ClashesWithOne u us ⊎ ClashingPair us
+
+-- u agrees with all of the vectors, or clashes with one
+with_all : (u : Vector) (vs : List Vector) → AgreesWithAll u vs ⊎ ClashesWithOne u vs
+with_all u [] = inl tt
+with_all u (v ∷ vs) = by (agree u v) refl (with_all u vs)
+  where
+    by : (t : Bool) → agree u v ≡ t → AgreesWithAll u vs ⊎ ClashesWithOne u vs →
+        AgreesWithAll u (v ∷ vs) ⊎ ClashesWithOne u (v ∷ vs)
+    by false p r = inr (inl p)
+    by true p (inl all) = inl (p, all)
+    by true p (inr one) = inr (inr one)
+
+-- all of the vectors agree with each other, or two of them clash
+pub agreeing_or_clashing : (us : List Vector) → AreAgreeing us ⊎ ClashingPair us
+agreeing_or_clashing [] = inl tt
+agreeing_or_clashing (u ∷ us) = by (with_all u us) (agreeing_or_clashing us)
+  where
+    by : AgreesWithAll u us ⊎ ClashesWithOne u us → AreAgreeing us ⊎ ClashingPair us →
+        AreAgreeing (u ∷ us) ⊎ ClashingPair (u ∷ us)
+    by (inr one) r = inr (inl one)
+    by (inl all) (inl pairs) = inl (all, pairs)
+    by (inl all) (inr pair) = inr (inr pair)

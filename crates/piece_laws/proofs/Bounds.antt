@@ -12,76 +12,80 @@ use Rattle.lattice_theory.specs.Lists.{all_zip}
 -- ---- the test
 
 all_le_true : (u v : Vector) → all_zip int_le u v ≡ true → AllZip ◌≤ℤ◌ u v
-all_le_true [] [] h = tt
-all_le_true [] (b ∷ v) h = absurd (cc)
-all_le_true (a ∷ u) [] h = absurd (cc)
-all_le_true (a ∷ u) (b ∷ v) h =
-    let p = and_true (int_le a b) (all_zip int_le u v) h in (int_le_true a b p.0, all_le_true u v p.1)
+all_le_true [] [] passes = tt
+all_le_true [] (b ∷ v) passes = absurd (cc)
+all_le_true (a ∷ u) [] passes = absurd (cc)
+all_le_true (a ∷ u) (b ∷ v) passes =
+    let p = and_true (int_le a b) (all_zip int_le u v) passes in (int_le_true a b p.0, all_le_true u v p.1)
 
 all_le_of : (u v : Vector) → AllZip ◌≤ℤ◌ u v → all_zip int_le u v ≡ true
-all_le_of [] [] h = refl
-all_le_of [] (b ∷ v) h = absurd h
-all_le_of (a ∷ u) [] h = absurd h
-all_le_of (a ∷ u) (b ∷ v) h = ap (λ t. t && all_zip int_le u v) (int_le_of a b h.0) ∙ all_le_of u v h.1
+all_le_of [] [] ordered = refl
+all_le_of [] (b ∷ v) ordered = absurd ordered
+all_le_of (a ∷ u) [] ordered = absurd ordered
+all_le_of (a ∷ u) (b ∷ v) ordered = ap (λ t. t && all_zip int_le u v) (int_le_of a b ordered.0) ∙ all_le_of u v ordered.1
 
+-- what passes the test is within the bounds
 pub is_within_true : (b : Brick) (v : Vector) → is_within b v ≡ true → IsWithin b v
-is_within_true b v h =
-    let p = and_true (all_zip int_le b.lower v) (all_zip int_le v b.upper) h in
+is_within_true b v passes =
+    let p = and_true (all_zip int_le b.lower v) (all_zip int_le v b.upper) passes in
     (all_le_true b.lower v p.0, all_le_true v b.upper p.1)
 
+-- what is within the bounds passes the test
 pub is_within_of : (b : Brick) (v : Vector) → IsWithin b v → is_within b v ≡ true
-is_within_of b v h = ap (λ t. t && all_zip int_le v b.upper) (all_le_of b.lower v h.0) ∙ all_le_of v b.upper h.1
+is_within_of b v inside = ap (λ t. t && all_zip int_le v b.upper) (all_le_of b.lower v inside.0) ∙ all_le_of v b.upper inside.1
 
+-- within the bounds stands a vector with an entry for each of them
 pub length-within : (b : Brick) (v : Vector) → IsWithin b v → length v ≡ length b.lower
-length-within b v h = sym (length_all_zip ◌≤ℤ◌ b.lower v h.0)
+length-within b v inside = sym (length_all_zip ◌≤ℤ◌ b.lower v inside.0)
 
 -- ---- with a part v of the way from x to y, x + v and y - v are within the bounds of x and y
 
 above_parts : (l x y v : ℤ) → l ≤ℤ x → l ≤ℤ y → is_between v (y -ℤ x) ≡ true → (l ≤ℤ (x +ℤ v)) × (l ≤ℤ (y -ℤ v))
-above_parts l x y v hx hy h =
-    let p = part_of v (y -ℤ x) h in (
+above_parts l x y v hx hy part =
+    let p = part_of v (y -ℤ x) part in (
       omega (arith, ints, hx, hy, p.ups, p.downs, one_zero v, one_zero (y -ℤ x)),
       omega (arith, ints, hx, hy, p.ups, p.downs, one_zero v, one_zero (y -ℤ x)),
     )
 
 below_parts : (u x y v : ℤ) → x ≤ℤ u → y ≤ℤ u → is_between v (y -ℤ x) ≡ true → ((x +ℤ v) ≤ℤ u) × ((y -ℤ v) ≤ℤ u)
-below_parts u x y v hx hy h =
-    let p = part_of v (y -ℤ x) h in (
+below_parts u x y v hx hy part =
+    let p = part_of v (y -ℤ x) part in (
       omega (arith, ints, hx, hy, p.ups, p.downs, one_zero v, one_zero (y -ℤ x)),
       omega (arith, ints, hx, hy, p.ups, p.downs, one_zero v, one_zero (y -ℤ x)),
     )
 
-all_above_parts : (l x y v : Vector) → AllZip ◌≤ℤ◌ l x → AllZip ◌≤ℤ◌ l y → v ⊑ sub y x →
-    AllZip ◌≤ℤ◌ l (add x v) × AllZip ◌≤ℤ◌ l (sub y v)
-all_above_parts [] [] [] v hx hy h = (tt, tt)
-all_above_parts [] [] (b ∷ y) v hx hy h = absurd hy
-all_above_parts [] (a ∷ x) y v hx hy h = absurd hx
-all_above_parts (c ∷ l) [] y v hx hy h = absurd hx
-all_above_parts (c ∷ l) (a ∷ x) [] v hx hy h = absurd hy
-all_above_parts (c ∷ l) (a ∷ x) (b ∷ y) [] hx hy h = absurd (cc)
-all_above_parts (c ∷ l) (a ∷ x) (b ∷ y) (d ∷ v) hx hy h =
-    let p = and_true (is_between d (b -ℤ a)) (conforms v (sub y x)) h in
-    let here = above_parts c a b d hx.0 hy.0 p.0 in
-    let rest = all_above_parts l x y v hx.1 hy.1 p.1 in
-    ((here.0, rest.0), (here.1, rest.1))
+-- what holds of both ends of a way holds of both ends of a part of it, if it is so for numbers
+module _ (R : ℤ → ℤ → Type 0)
+    (numbers : (c x y v : ℤ) → R c x → R c y → is_between v (y -ℤ x) ≡ true → R c (x +ℤ v) × R c (y -ℤ v)) where
+  all_parts : (cs x y v : Vector) → AllZip R cs x → AllZip R cs y → v ⊑ sub y x →
+      AllZip R cs (add x v) × AllZip R cs (sub y v)
+  all_parts [] [] [] v hx hy part = (tt, tt)
+  all_parts [] [] (b ∷ y) v hx hy part = absurd hy
+  all_parts [] (a ∷ x) y v hx hy part = absurd hx
+  all_parts (c ∷ cs) [] y v hx hy part = absurd hx
+  all_parts (c ∷ cs) (a ∷ x) [] v hx hy part = absurd hy
+  all_parts (c ∷ cs) (a ∷ x) (b ∷ y) [] hx hy part = absurd (cc)
+  all_parts (c ∷ cs) (a ∷ x) (b ∷ y) (d ∷ v) hx hy part =
+      let p = and_true (is_between d (b -ℤ a)) (conforms v (sub y x)) part in
+      let here = numbers c a b d hx.0 hy.0 p.0 in
+      let rest = all_parts cs x y v hx.1 hy.1 p.1 in
+      ((here.0, rest.0), (here.1, rest.1))
 
-all_below_parts : (u x y v : Vector) → AllZip ◌≤ℤ◌ x u → AllZip ◌≤ℤ◌ y u → v ⊑ sub y x →
-    AllZip ◌≤ℤ◌ (add x v) u × AllZip ◌≤ℤ◌ (sub y v) u
-all_below_parts [] [] [] v hx hy h = (tt, tt)
-all_below_parts [] [] (b ∷ y) v hx hy h = absurd hy
-all_below_parts [] (a ∷ x) y v hx hy h = absurd hx
-all_below_parts (c ∷ u) [] y v hx hy h = absurd hx
-all_below_parts (c ∷ u) (a ∷ x) [] v hx hy h = absurd hy
-all_below_parts (c ∷ u) (a ∷ x) (b ∷ y) [] hx hy h = absurd (cc)
-all_below_parts (c ∷ u) (a ∷ x) (b ∷ y) (d ∷ v) hx hy h =
-    let p = and_true (is_between d (b -ℤ a)) (conforms v (sub y x)) h in
-    let here = below_parts c a b d hx.0 hy.0 p.0 in
-    let rest = all_below_parts u x y v hx.1 hy.1 p.1 in
-    ((here.0, rest.0), (here.1, rest.1))
+-- the two vectors of a relation, in the other order
+flipped : (R : ℤ → ℤ → Type 0) (u v : Vector) → AllZip R u v → AllZip (λ b a. R a b) v u
+flipped R [] [] all = tt
+flipped R [] (b ∷ v) all = absurd all
+flipped R (a ∷ u) [] all = absurd all
+flipped R (a ∷ u) (b ∷ v) all = (all.0, flipped R u v all.1)
 
+-- both ends of a part of the way between two vectors within the bounds are within them
 pub within_parts : (b : Brick) (x y v : Vector) → IsWithin b x → IsWithin b y → v ⊑ sub y x →
     IsWithin b (add x v) × IsWithin b (sub y v)
-within_parts b x y v hx hy h =
-    let above = all_above_parts b.lower x y v hx.0 hy.0 h in
-    let below = all_below_parts b.upper x y v hx.1 hy.1 h in
-    ((above.0, below.0), (above.1, below.1))
+within_parts b x y v hx hy part =
+    let turned = λ (w : Vector) (below : AllZip ◌≤ℤ◌ w b.upper). flipped ◌≤ℤ◌ w b.upper below in
+    let above = all_parts ◌≤ℤ◌ above_parts b.lower x y v hx.0 hy.0 part in
+    let below = all_parts (λ u w. w ≤ℤ u) below_parts b.upper x y v (turned x hx.1) (turned y hy.1) part in
+    (
+      (above.0, flipped (λ u w. w ≤ℤ u) b.upper (add x v) below.0),
+      (above.1, flipped (λ u w. w ≤ℤ u) b.upper (sub y v) below.1),
+    )

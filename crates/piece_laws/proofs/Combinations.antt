@@ -32,6 +32,7 @@ combined t gens c = sum_of t (terms gens c)
 -- ---- sums by counts are linear in the counts
 
 module _ (t : ℕ) where
+  -- a sum by counts has as many entries as the generators
   pub length-combined : (gens : List Vector) (c : Vector) → AreSized t gens → length (combined t gens c) ≡ t
   length-combined [] c sized = length-zeros t
   length-combined (g ∷ gens) [] sized = length-zeros t
@@ -41,6 +42,7 @@ module _ (t : ℕ) where
   no_zeros : zeros t ≡ add (zeros t) (zeros t)
   no_zeros = sym (add_zeros (zeros t) t (length-zeros t))
 
+  -- counts that add up give sums that add up
   pub combined-add : (gens : List Vector) (c d : Vector) → length c ≡ length d →
       combined t gens (add c d) ≡ add (combined t gens c) (combined t gens d)
   combined-add [] c d size = no_zeros
@@ -51,6 +53,7 @@ module _ (t : ℕ) where
       (λ i. add (scale-sum a b g i) (combined-add gens c d (omega arith) i))
       ∙ interchange (scale a g) (scale b g) (combined t gens c) (combined t gens d)
 
+  -- counts of 0 give 0
   pub combined-zeros : (gens : List Vector) (n : ℕ) → AreSized t gens → combined t gens (zeros n) ≡ zeros t
   combined-zeros [] n sized = refl
   combined-zeros (g ∷ gens) zero sized = refl
@@ -135,8 +138,8 @@ module _ (t : ℕ) (e s : Vector) (agrees : agree e s ≡ true) where
 
   -- a term with e added to it
   joined : (u : Vector) → u ⊑ s → add u e ⊑ add e s
-  joined u h =
-      subst (λ v. add u e ⊑ v) (add_comm_v s e) (parts_sum u e s e h (conforms_refl e) (agree_comm s e ∙ agrees))
+  joined u below =
+      subst (λ v. add u e ⊑ v) (add_comm_v s e) (parts_sum u e s e below (conforms_refl e) (agree_comm s e ∙ agrees))
 
   more_of : (gens : List Vector) (c : Vector) → IsSigned gens e → length c ≡ length gens →
       AllByRecursion (λ u. u ⊑ s) (terms gens c) → More t gens c e s
@@ -189,10 +192,10 @@ written_by t gens [] sized signed agreeing = (
 )
   where
     none : (gs : List Vector) → AreSized t gs → AllByRecursion (λ u. u ⊑ zeros t) (terms gs (zeros (length gs)))
-    none [] k = tt
-    none (g ∷ gs) k = (
-      subst (λ v. v ⊑ zeros t) (sym (scale_zero g ∙ ap zeros k.0)) (conforms_refl (zeros t)),
-      none gs k.1,
+    none [] sized = tt
+    none (g ∷ gs) sized = (
+      subst (λ v. v ⊑ zeros t) (sym (scale_zero g ∙ ap zeros sized.0)) (conforms_refl (zeros t)),
+      none gs sized.1,
     )
 written_by t gens (e ∷ es) sized signed agreeing =
     let s = sum_of t es in
@@ -205,29 +208,29 @@ written_by t gens (e ∷ es) sized signed agreeing =
 
 -- parts of the counts give parts of the terms
 terms-below : (gens : List Vector) (a c : Vector) → a ⊑ c → AllZip ◌⊑◌ (terms gens a) (terms gens c)
-terms-below [] a c h = tt
-terms-below (g ∷ gens) [] [] h = tt
-terms-below (g ∷ gens) [] (y ∷ c) h = absurd (cc)
-terms-below (g ∷ gens) (x ∷ a) [] h = absurd (cc)
-terms-below (g ∷ gens) (x ∷ a) (y ∷ c) h =
-    let p = and_true (is_between x y) (conforms a c) h in (scale-below x y g p.0, terms-below gens a c p.1)
+terms-below [] a c below = tt
+terms-below (g ∷ gens) [] [] below = tt
+terms-below (g ∷ gens) [] (y ∷ c) below = absurd (cc)
+terms-below (g ∷ gens) (x ∷ a) [] below = absurd (cc)
+terms-below (g ∷ gens) (x ∷ a) (y ∷ c) below =
+    let p = and_true (is_between x y) (conforms a c) below in (scale-below x y g p.0, terms-below gens a c p.1)
 
 -- parts of vectors that agree add up to a part of the sum, and are below y where the vectors are
 sum-below : (t : ℕ) (us vs : List Vector) → AllZip ◌⊑◌ us vs → AreSized t vs → AreAgreeing vs →
     sum_of t us ⊑ sum_of t vs
-sum-below t [] [] h sized agreeing = conforms_refl (zeros t)
-sum-below t [] (v ∷ vs) h sized agreeing = absurd h
-sum-below t (u ∷ us) [] h sized agreeing = absurd h
-sum-below t (u ∷ us) (v ∷ vs) h sized agreeing =
-    parts_sum u (sum_of t us) v (sum_of t vs) h.0 (sum-below t us vs h.1 sized.1 agreeing.1)
+sum-below t [] [] below sized agreeing = conforms_refl (zeros t)
+sum-below t [] (v ∷ vs) below sized agreeing = absurd below
+sum-below t (u ∷ us) [] below sized agreeing = absurd below
+sum-below t (u ∷ us) (v ∷ vs) below sized agreeing =
+    parts_sum u (sum_of t us) v (sum_of t vs) below.0 (sum-below t us vs below.1 sized.1 agreeing.1)
     (agree_all t v vs sized.0 agreeing.0)
 
 each-below : (us vs : List Vector) (y : Vector) → AllZip ◌⊑◌ us vs → AllByRecursion (λ v. v ⊑ y) vs →
     AllByRecursion (λ u. u ⊑ y) us
-each-below [] [] y h below = tt
-each-below [] (v ∷ vs) y h below = absurd h
-each-below (u ∷ us) [] y h below = absurd h
-each-below (u ∷ us) (v ∷ vs) y h below = (conforms_trans u v y h.0 below.0, each-below us vs y h.1 below.1)
+each-below [] [] y parts below = tt
+each-below [] (v ∷ vs) y parts below = absurd parts
+each-below (u ∷ us) [] y parts below = absurd parts
+each-below (u ∷ us) (v ∷ vs) y parts below = (conforms_trans u v y parts.0 below.0, each-below us vs y parts.1 below.1)
 
 -- the terms have as many entries as the generators
 terms-sized : (t : ℕ) (gens : List Vector) (c : Vector) → AreSized t gens → AreSized t (terms gens c)
@@ -236,25 +239,26 @@ terms-sized t (g ∷ gens) [] sized = tt
 terms-sized t (g ∷ gens) (a ∷ c) sized = (length-scale a g ∙ sized.0, terms-sized t gens c sized.1)
 
 module _ (t : ℕ) (gens : List Vector) (sized : AreSized t gens) where
+  -- a part of the counts gives a part of what they write
   pub part_below : (y c a : Vector) → IsWritten t gens y c → a ⊑ c → combined t gens a ⊑ y
-  part_below y c a w h =
+  part_below y c a w below =
       subst (λ v. combined t gens a ⊑ v) w.sum
-      (sum-below t (terms gens a) (terms gens c) (terms-below gens a c h) (terms-sized t gens c sized)
+      (sum-below t (terms gens a) (terms gens c) (terms-below gens a c below) (terms-sized t gens c sized)
       (below_agree (terms gens c) y w.below))
 
   -- a part weighs no less than its counts
   pub part_weighs : (y c a : Vector) → AllByRecursion (λ g. 0 < norm1 g) gens → IsWritten t gens y c → a ⊑ c →
       norm1 a ≤ norm1 (combined t gens a)
-  part_weighs y c a nonzero w h =
-      let below = each-below (terms gens a) (terms gens c) y (terms-below gens a c h) w.below in
+  part_weighs y c a nonzero w part =
+      let below = each-below (terms gens a) (terms gens c) y (terms-below gens a c part) w.below in
       omega (
         arith,
         agreeing_weight t (terms gens a) (terms-sized t gens a sized) (below_agree (terms gens a) y below),
-        term_weights gens a nonzero (omega (arith, length_below a c h, w.size)),
+        term_weights gens a nonzero (omega (arith, length_below a c part, w.size)),
       )
     where
       norm-times : (x : ℤ) (g : Vector) → 0 < norm1 g → unsigned_abs x ≤ norm1 (scale x g)
-      norm-times x g h = omega (arith, norm-scale-abs x g, le-mul_of_pos_right (unsigned_abs x) h)
+      norm-times x g part = omega (arith, norm-scale-abs x g, le-mul_of_pos_right (unsigned_abs x) part)
 
       term_weights : (gs : List Vector) (b : Vector) → AllByRecursion (λ g. 0 < norm1 g) gs → length b ≡ length gs →
           norm1 b ≤ weight (terms gs b)

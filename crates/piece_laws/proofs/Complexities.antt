@@ -19,6 +19,7 @@ use Rattle.cover_laws.proofs.CompleteLists.{complete_elements}
 use Rattle.piece_laws.proofs.PieceCounts.{LightPart}
 use Rattle.lattice_laws.proofs.Members.{at_most_greatest, filtered, mapped_from}
 
+-- the complexity is at least 1
 pub complexity_some : (phase : Phase) (relations : List Relation) (m : Matrix) (basis : List Vector) →
     1 ≤ complexity phase relations m basis
 complexity_some phase relations m basis = omega (arith, least_some (list_all is_zero m.rows))

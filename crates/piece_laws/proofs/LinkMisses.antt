@@ -115,6 +115,7 @@ row_kept Equal right x y at_x at_y =
 row_kept Less right x y at_x at_y = refl
 row_kept Greater right x y at_x at_y = refl
 
+-- so for all rows
 pub equations_kept : (relations : List Relation) (right x y : Vector) → length right ≡ length relations →
     length x ≡ length relations → length y ≡ length relations →
     missed relations (sub right x) ≡ 0 → missed relations (sub right y) ≡ 0 →
@@ -145,6 +146,7 @@ row_kept_below Equal a b below kept =
 row_kept_below Less a b below kept = refl
 row_kept_below Greater a b below kept = refl
 
+-- so for all rows
 pub equations_kept_below : (relations : List Relation) (u v : Vector) → u ⊑ v → keeps_equations relations v ≡ true →
     keeps_equations relations u ≡ true
 equations_kept_below [] [] v below kept = refl
@@ -167,6 +169,7 @@ row_kept_turned Equal a kept =
 row_kept_turned Less a kept = refl
 row_kept_turned Greater a kept = refl
 
+-- so for all rows
 pub equations_kept_turned : (relations : List Relation) (v : Vector) → keeps_equations relations v ≡ true →
     keeps_equations relations (opposite v) ≡ true
 equations_kept_turned [] [] kept = refl
@@ -189,6 +192,7 @@ pub tight_below : (phase : Phase) (relations : List Relation) (u v : Vector) →
 tight_below Closed relations u v below tight = equations_kept_below relations u v below tight
 tight_below Counted relations u v below tight = tt
 
+-- and of the change with its signs turned
 pub tight_turned : (phase : Phase) (relations : List Relation) (m : Matrix) (v : Vector) →
     IsTight phase relations (product m v) → IsTight phase relations (product m (opposite v))
 tight_turned Closed relations m v tight =

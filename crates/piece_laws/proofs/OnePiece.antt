@@ -144,6 +144,7 @@ module _ (p : Program) (phase : Phase) (gens zs : List Vector) (bound : ℕ) (fr
 
   -- ---- the piece
 
+  -- a way that changes no brick row, and the linking rows as the phase wants it, has a piece
   pub one_piece : (ds : List Vector) → AreSized t ds → IsStill p ds →
       IsTight phase p.relations (product p.link (sum_of t ds)) → 0 < weight ds → Piece p zs ds
   one_piece ds sized still tight some =

@@ -4,12 +4,12 @@ use Rattle.std.proofs.Common.{◌≡◌, ℕ, zero, suc, ◌+◌, ◌<◌, ◌�
 use Rattle.std.proofs.lemmas.Int.{ints}
 use Rattle.std.proofs.lemmas.Bool.Decides.{nat_tests}
 use Rattle.lattice_theory.specs.Vectors.{Vector, ◌⊑◌, conforms, is_between, norm1, add, opposite, zeros}
-use Rattle.lattice_laws.proofs.Signs.{agrees, between_zero}
+use Rattle.lattice_laws.proofs.Signs.{agrees, between_zero, clash}
 use Rattle.lattice_laws.proofs.Conformal.{agree, length_below, norm1-cons, norm-opposite, length-opposite, sub-opposite}
 use Rattle.lattice_laws.proofs.Products.{length-zeros}
 use Rattle.lattice_laws.proofs.Sums.{add_zeros, zeros_add, opposite-zeros, norm-zeros, sub_itself, zeros_below, zeros_below_sized}
 use Rattle.lattice_laws.specs.VectorLists.{sum_of, weight, AreSized}
-use Rattle.lattice_laws.proofs.VectorLists.{AreAgreeing, AgreesWithAll, agreeing_weight, norm_sum_of}
+use Rattle.lattice_laws.proofs.VectorLists.{agreeing_weight, norm_sum_of, ClashesWithOne, ClashingPair, agreeing_or_clashing}
 use Rattle.piece_laws.proofs.Shares.{StayWithin, Shares, shares_of}
 
 -- ---- units
@@ -19,12 +19,12 @@ abbrev AreApart : ℤ → ℤ → Type 0
 AreApart a b = (is_between (pos 1) a ≡ true) × (is_between (negsuc 0) b ≡ true)
 
 apart : (a b : ℤ) → agrees a b ≡ false → AreApart a b ⊎ AreApart b a
-apart (pos a) (pos b) h = absurd (grind (arith, nat_tests, ints))
-apart (pos zero) (negsuc b) h = absurd (grind (arith, nat_tests, ints))
-apart (pos (suc a)) (negsuc b) h = inl (grind (arith, nat_tests, ints), grind (arith, nat_tests, ints))
-apart (negsuc a) (pos zero) h = absurd (grind (arith, nat_tests, ints))
-apart (negsuc a) (pos (suc b)) h = inr (grind (arith, nat_tests, ints), grind (arith, nat_tests, ints))
-apart (negsuc a) (negsuc b) h = absurd (grind (arith, nat_tests, ints))
+apart (pos a) (pos b) clash = absurd (grind (arith, nat_tests, ints))
+apart (pos zero) (negsuc b) clash = absurd (grind (arith, nat_tests, ints))
+apart (pos (suc a)) (negsuc b) clash = inl (grind (arith, nat_tests, ints), grind (arith, nat_tests, ints))
+apart (negsuc a) (pos zero) clash = absurd (grind (arith, nat_tests, ints))
+apart (negsuc a) (pos (suc b)) clash = inr (grind (arith, nat_tests, ints), grind (arith, nat_tests, ints))
+apart (negsuc a) (negsuc b) clash = absurd (grind (arith, nat_tests, ints))
 
 -- a unit below u whose opposite is below v
 record Meeting (u v : Vector) : Type 0 where
@@ -34,10 +34,10 @@ record Meeting (u v : Vector) : Type 0 where
   one : norm1 unit ≡ 1
 
 meeting : (u v : Vector) → length u ≡ length v → agree u v ≡ false → Meeting u v
-meeting [] [] size h = absurd (cc)
-meeting [] (b ∷ v) size h = absurd (omega arith)
-meeting (a ∷ u) [] size h = absurd (omega arith)
-meeting (a ∷ u) (b ∷ v) size h = by (agrees a b) refl h (λ k. meeting u v (omega arith) k)
+meeting [] [] size clash = absurd (cc)
+meeting [] (b ∷ v) size clash = absurd (omega arith)
+meeting (a ∷ u) [] size clash = absurd (omega arith)
+meeting (a ∷ u) (b ∷ v) size clash = by (agrees a b) refl clash (λ k. meeting u v (omega arith) k)
   where
     n : ℕ
     n = length u
@@ -74,39 +74,6 @@ meeting (a ∷ u) (b ∷ v) size h = by (agrees a b) refl h (λ k. meeting u v (
         Meeting (a ∷ u) (b ∷ v)
     by true p q rest = further (rest q)
     by false p q rest = here (apart a b p)
-
--- ---- vectors that clash
-
--- u clashes with one of the vectors
-abbrev ClashesWithOne : Vector → List Vector → Type 0
-ClashesWithOne u [] = ⊥
-ClashesWithOne u (v ∷ vs) = (agree u v ≡ false) ⊎ ClashesWithOne u vs
-
--- two of the vectors clash
-abbrev ClashingPair : List Vector → Type 0
-ClashingPair [] = ⊥
-ClashingPair (u ∷ us) = ClashesWithOne u us ⊎ ClashingPair us
-
--- u agrees with all of the vectors, or clashes with one
-with_all : (u : Vector) (vs : List Vector) → AgreesWithAll u vs ⊎ ClashesWithOne u vs
-with_all u [] = inl tt
-with_all u (v ∷ vs) = by (agree u v) refl (with_all u vs)
-  where
-    by : (t : Bool) → agree u v ≡ t → AgreesWithAll u vs ⊎ ClashesWithOne u vs →
-        AgreesWithAll u (v ∷ vs) ⊎ ClashesWithOne u (v ∷ vs)
-    by false p r = inr (inl p)
-    by true p (inl all) = inl (p, all)
-    by true p (inr one) = inr (inr one)
-
-agreeing_or_clashing : (us : List Vector) → AreAgreeing us ⊎ ClashingPair us
-agreeing_or_clashing [] = inl tt
-agreeing_or_clashing (u ∷ us) = by (with_all u us) (agreeing_or_clashing us)
-  where
-    by : AgreesWithAll u us ⊎ ClashesWithOne u us → AreAgreeing us ⊎ ClashingPair us →
-        AreAgreeing (u ∷ us) ⊎ ClashingPair (u ∷ us)
-    by (inr one) r = inr (inl one)
-    by (inl all) (inl pairs) = inl (all, pairs)
-    by (inl all) (inr pair) = inr (inr pair)
 
 -- ---- a unit and its opposite
 

@@ -15,6 +15,7 @@ use Rattle.piece_laws.proofs.Frames.{frame_of}
 use Rattle.piece_laws.proofs.Starts.{sized, same_length}
 use Rattle.piece_laws.proofs.Least.{piece_of_way, least}
 
+-- between two different points where a phase starts the way has a piece of brick sums
 pub way_has_piece : (p : Program) (phase : Phase) (b : Bases) (sums : List Sum) → IsProgram p → AreBases p b →
     AreBrickSums p phase b sums → (x y : Bricks) → IsStart p phase x → IsStart p phase y → (x ≡ y → ⊥) →
     Piece p (vectors sums) (way x y)
@@ -27,6 +28,7 @@ way_has_piece p phase b sums program bases are x y at_x at_y other =
           (same_length p program x y at_x.within at_y.within) (omega (arith, none))))
     ])
 
+-- a start that no unit step of brick sums betters is a best one
 pub unit_best : (p : Program) (phase : Phase) (b : Bases) (sums : List Sum) → IsProgram p → AreBases p b →
     AreBrickSums p phase b sums → (x : Bricks) → IsStart p phase x →
     ((h : Bricks) → IsUnitStep p phase (vectors sums) x h → phase_cost p phase x ≤ℤ phase_cost p phase (forth x h)) →

@@ -42,6 +42,7 @@ brick_parts t s b x y h is wx wy below =
 
 -- ---- the bricks of a point
 
+-- so for all bricks
 pub point_parts : (t s : ℕ) (bs : List Brick) (x y h : Bricks) → AllByRecursion (IsBrick t s) bs →
     AreWithin bs x → AreWithin bs y → ArePartsOf h x y →
     (sum_zip brick_cost bs (forth x h) +ℤ sum_zip brick_cost bs (back y h))

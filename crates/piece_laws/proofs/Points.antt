@@ -46,6 +46,7 @@ module _ (t : ℕ) where
   sum-forth (u ∷ x) (d ∷ h) size =
       ap (add (add u d)) (sum-forth x h (omega arith)) ∙ interchange u d (sum_of t x) (sum_of t h)
 
+  -- and of y - h
   pub sum-back : (y h : Bricks) → length h ≡ length y → sum_of t (back y h) ≡ sub (sum_of t y) (sum_of t h)
   sum-back [] [] size = sym (sub_itself (zeros t) t (length-zeros t))
   sum-back [] (d ∷ h) size = absurd (omega arith)
@@ -137,6 +138,7 @@ module _ (t : ℕ) where
 
 -- ---- two parts of the phase cost
 
+-- a part has as many bricks as the points
 pub parts-length : (h x y : Bricks) → ArePartsOf h x y → length y ≡ length x → length h ≡ length x
 parts-length [] [] [] below size = refl
 parts-length [] [] (v ∷ y) below size = absurd (omega arith)
@@ -212,6 +214,7 @@ points_sized t s (b ∷ bs) [] is within = absurd within
 points_sized t s (b ∷ bs) (v ∷ x) is within =
     (length-within b v within.0 ∙ is.0.lower_size, points_sized t s bs x is.1 within.1)
 
+-- and as many as there are bricks
 pub point-length : (bs : List Brick) (x : Bricks) → AreWithin bs x → length x ≡ length bs
 point-length [] [] within = refl
 point-length [] (v ∷ x) within = absurd within

@@ -14,8 +14,8 @@ use Rattle.piece_laws.specs.Points.{back}
 -- two parts of the distance of two numbers
 distance_parts : (r x y v : ℤ) → is_between v (y -ℤ x) ≡ true →
     unsigned_abs (r -ℤ (x +ℤ v)) + unsigned_abs (r -ℤ (y -ℤ v)) ≤ unsigned_abs (r -ℤ x) + unsigned_abs (r -ℤ y)
-distance_parts r x y v h =
-    let p = part_of v (y -ℤ x) h in
+distance_parts r x y v part =
+    let p = part_of v (y -ℤ x) part in
     omega (
       arith,
       ints,
@@ -34,12 +34,12 @@ distance_parts r x y v h =
 -- two parts of the distance of two vectors
 pub norm_parts : (r x y v : Vector) → v ⊑ sub y x → length x ≡ length r → length y ≡ length r →
     norm1 (sub r (add x v)) + norm1 (sub r (sub y v)) ≤ norm1 (sub r x) + norm1 (sub r y)
-norm_parts [] x y v h ex ey = omega arith
-norm_parts (r ∷ rs) [] y v h ex ey = absurd (omega arith)
-norm_parts (r ∷ rs) (x ∷ xs) [] v h ex ey = absurd (omega arith)
-norm_parts (r ∷ rs) (x ∷ xs) (y ∷ ys) [] h ex ey = absurd (cc)
-norm_parts (r ∷ rs) (x ∷ xs) (y ∷ ys) (v ∷ vs) h ex ey =
-    let p = and_true (is_between v (y -ℤ x)) (conforms vs (sub ys xs)) h in
+norm_parts [] x y v below ex ey = omega arith
+norm_parts (r ∷ rs) [] y v below ex ey = absurd (omega arith)
+norm_parts (r ∷ rs) (x ∷ xs) [] v below ex ey = absurd (omega arith)
+norm_parts (r ∷ rs) (x ∷ xs) (y ∷ ys) [] below ex ey = absurd (cc)
+norm_parts (r ∷ rs) (x ∷ xs) (y ∷ ys) (v ∷ vs) below ex ey =
+    let p = and_true (is_between v (y -ℤ x)) (conforms vs (sub ys xs)) below in
     omega (
       arith,
       norm1-cons (r -ℤ (x +ℤ v)) (sub rs (add xs vs)),
@@ -54,10 +54,10 @@ norm_parts (r ∷ rs) (x ∷ xs) (y ∷ ys) (v ∷ vs) h ex ey =
 pub brick_residual_parts : (p : Program) (b : Brick) (x y v : Vector) → length b.right ≡ length p.brick.rows →
     length y ≡ length x → length v ≡ length x → product p.brick v ⊑ product p.brick (sub y x) →
     brick_residual p b (add x v) + brick_residual p b (sub y v) ≤ brick_residual p b x + brick_residual p b y
-brick_residual_parts p b x y v right ey ev h =
+brick_residual_parts p b x y v right ey ev below =
     let rows = p.brick.rows in
     let image = product p.brick in
-    let part : image v ⊑ sub (image y) (image x) = subst (λ w. image v ⊑ w) (rows-sub rows y x ey) h in
+    let part : image v ⊑ sub (image y) (image x) = subst (λ w. image v ⊑ w) (rows-sub rows y x ey) below in
     let forward : brick_residual p b (add x v) ≡ norm1 (sub b.right (add (image x) (image v))) =
     ap (λ w. norm1 (sub b.right w)) (rows-add rows x v (sym ev)) in
     let back : brick_residual p b (sub y v) ≡ norm1 (sub b.right (sub (image y) (image v))) =

@@ -50,9 +50,9 @@ record Clip (q c w : ℤ) : Type 0 where
 
 -- c where q is larger, and else q
 clip : (q c w : ℤ) → agrees c w ≡ true → is_between q (c +ℤ w) ≡ true → Clip q c w
-clip q c w g h =
-    let none = no_clash c w g in
-    let p = part_of q (c +ℤ w) h in
+clip q c w agreeing between =
+    let none = no_clash c w agreeing in
+    let p = part_of q (c +ℤ w) between in
     elim (cases_lt (unsigned_abs c) (unsigned_abs q)) [
       | inl less ↦ record {
         part = c;
@@ -78,14 +78,14 @@ record Share (q c w : Vector) : Type 0 where
   rest : sub q part ⊑ w
 
 share : (q c w : Vector) → agree c w ≡ true → q ⊑ add c w → Share q c w
-share [] [] [] g h = record { part = []; in_count = refl; in_whole = refl; rest = refl }
-share (a ∷ q) [] [] g h = absurd (cc)
-share q [] (b ∷ w) g h = absurd (cc)
-share q (c ∷ cs) [] g h = absurd (cc)
-share [] (c ∷ cs) (b ∷ w) g h = absurd (cc)
-share (a ∷ q) (c ∷ cs) (b ∷ w) g h =
-    let agreeing = and_true (agrees c b) (agree cs w) g in
-    let below = and_true (is_between a (c +ℤ b)) (conforms q (add cs w)) h in
+share [] [] [] agreeing below = record { part = []; in_count = refl; in_whole = refl; rest = refl }
+share (a ∷ q) [] [] agreeing below = absurd (cc)
+share q [] (b ∷ w) agreeing below = absurd (cc)
+share q (c ∷ cs) [] agreeing below = absurd (cc)
+share [] (c ∷ cs) (b ∷ w) agreeing below = absurd (cc)
+share (a ∷ q) (c ∷ cs) (b ∷ w) agreed under =
+    let agreeing = and_true (agrees c b) (agree cs w) agreed in
+    let below = and_true (is_between a (c +ℤ b)) (conforms q (add cs w)) under in
     let x = clip a c b agreeing.0 below.0 in
     let xs = share q cs w agreeing.1 below.1 in
     record {
@@ -109,12 +109,13 @@ pub record Shares (n most : ℕ) (b q : Vector) (counts : List Vector) : Type 0 
   pub whole : sum_of n parts ≡ q
   pub within : StayWithin most b parts
 
+-- each count vector gives its share in turn
 pub shares_of : (n most : ℕ) (counts : List Vector) → AreSized n counts → AreAgreeing counts → (b q : Vector) →
     q ⊑ sum_of n counts → norm1 b + norm1 q ≤ most → Shares n most b q counts
-shares_of n most [] sized agreeing b q h light =
-    record { parts = []; below = tt; whole = sym (below_zeros q n h); within = tt }
-shares_of n most (c ∷ counts) sized agreeing b q h light =
-    let x = share q c (sum_of n counts) (agree_all n c counts sized.0 agreeing.0) h in
+shares_of n most [] sized agreeing b q part light =
+    record { parts = []; below = tt; whole = sym (below_zeros q n part); within = tt }
+shares_of n most (c ∷ counts) sized agreeing b q part light =
+    let x = share q c (sum_of n counts) (agree_all n c counts sized.0 agreeing.0) part in
     let split = norm_split x.part q x.in_whole in
     let sum = norm_sum b x.part in
     let left : norm1 (add b x.part) + norm1 (sub q x.part) ≤ most = omega (arith, sum, split, light) in

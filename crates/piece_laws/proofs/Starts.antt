@@ -92,6 +92,7 @@ module _ (p : Program) (program : IsProgram p) where
     parts_cost phase =
         phase_parts p.brick.cols (length p.brick.rows) p phase x y h (bricks_of p program) wx wy part.bricks parts_miss
 
+-- two parts of the phase cost
 pub parts_cost_no_more : (p : Program) (phase : Phase) (x y h : Bricks) → IsProgram p → AreWithin p.bricks x →
     AreWithin p.bricks y → IsPartOfWay p x y h →
     (phase_cost p phase (forth x h) +ℤ phase_cost p phase (back y h)) ≤ℤ (phase_cost p phase x +ℤ phase_cost p phase y)
@@ -107,6 +108,7 @@ module _ (p : Program) (phase : Phase) (program : IsProgram p) (x y : Bricks) (a
   sy : AreSized p.brick.cols y
   sy = sized p program y at_y.within
 
+  -- the way has the width of a brick in each brick
   pub way-sized : AreSized p.brick.cols (way x y)
   way-sized = back-sized p.brick.cols y x sy sx
 
@@ -135,6 +137,7 @@ module _ (p : Program) (phase : Phase) (program : IsProgram p) (x y : Bricks) (a
     pub costs : (phase_cost p phase (forth x h) +ℤ phase_cost p phase (back y h))
         ≤ℤ (phase_cost p phase x +ℤ phase_cost p phase y)
 
+  -- a part of the way has such ends
   pub ends_of : (h : Bricks) → IsPartOfWay p x y h → Ends h
   ends_of h part =
       let both = parts_within p.bricks h x y part.bricks at_x.within at_y.within in

@@ -12,6 +12,7 @@ use Rattle.piece_laws.proofs.Frames.{frame_of}
 use Rattle.piece_laws.proofs.Least.{least}
 use Rattle.run_laws.proofs.UnitSteps.{no_gain}
 
+-- where the rule has no step, the start is a best one
 pub finished_is_best : (p : Program) (phase : Phase) (b : Bases) (sums : List Sum) (x y : Bricks) →
     IsProgram p → AreBases p b → AreBrickSums p phase b sums → IsStart p phase x →
     NoneAugments p phase (vectors sums) x → IsStart p phase y → phase_cost p phase x ≤ℤ phase_cost p phase y

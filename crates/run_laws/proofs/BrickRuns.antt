@@ -17,10 +17,10 @@ use Rattle.piece_laws.proofs.Bricks.{IsNoHelp}
 -- ---- the start and the end of a run
 
 lt_true : (a b : ℤ) → int_lt a b ≡ true → a <ℤ b
-lt_true a b h = grind (arith, ints)
+lt_true a b passes = grind (arith, ints)
 
 lt_false : (a b : ℤ) → int_lt a b ≡ false → b ≤ℤ a
-lt_false a b h = grind (arith, ints)
+lt_false a b fails = grind (arith, ints)
 
 -- the number that is nearest to 0 is between the two
 nearest_between : (lo hi : ℤ) → lo ≤ℤ hi → (lo ≤ℤ nearest lo hi) × (nearest lo hi ≤ℤ hi)

@@ -79,6 +79,7 @@ pub record IsBestStart (p : Program) (phase : Phase) (x : Bricks) : Type 0 where
   pub start : IsStart p phase x
   pub least : (y : Bricks) → IsStart p phase y → phase_cost p phase x ≤ℤ phase_cost p phase y
 
+-- where a run ends, the start is a best one
 pub run_best : (p : Program) (phase : Phase) (b : Bases) (sums : List Sum) (moves : List Move) (x last : Bricks) →
     IsProgram p → AreBases p b → AreBrickSums p phase b sums → IsStart p phase x →
     IsRun p phase (vectors sums) x moves last → IsBestStart p phase last

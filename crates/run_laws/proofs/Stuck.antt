@@ -11,6 +11,7 @@ use Rattle.run_laws.proofs.BrickRuns.{brick_run_end, run_no_help}
 use Rattle.piece_laws.proofs.Bricks.{IsHeldBrick, least_residual}
 use Rattle.cover_laws.proofs.SlackBases.{slack_basis_complete}
 
+-- the verdict on a brick whose run ends with a residual is true
 pub stuck_holds : (p : Program) (basis : List Vector) (place : ℕ) (brick : Brick) (moves : List BrickMove)
     (v : Vector) → IsProgram p → IsSlackBasis p.brick basis → slice_get p.bricks place ≡ Some brick →
     IsBrickRun p basis brick moves v → 0 < brick_residual p brick v →

@@ -125,6 +125,7 @@ module _ (p : Program) where
   abbrev saying : Outcome → Verdict → Outcome
   saying o v = record { verdict = v; point = o.point; traces = o.traces; counted = o.counted; closed = o.closed }
 
+  -- what an outcome says is true, by its verdict
   pub outcome_holds : (o : Outcome) → IsProgram p → IsOutcome p o → HoldsAt p o
   outcome_holds o program is = by o.verdict is
     where

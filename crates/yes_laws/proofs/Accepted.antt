@@ -50,8 +50,8 @@ record Rules (p : Program) (phase : Phase) (c : Certificate) (f : FoldPart) : Ty
 -- where none of the rules is the first to fail, each part holds
 rules_say : (p : Program) (phase : Phase) (c : Certificate) (f : FoldPart) →
     first_failing (fold_rules p phase c f) ≡ None → Rules p phase c f
-rules_say p phase c f h =
-    let pass = all_pass (fold_rules p phase c f) h in
+rules_say p phase c f nothing =
+    let pass = all_pass (fold_rules p phase c f) nothing in
     let fits = and_true (parts_fit p c f) (point_fits p phase c.point.rows) pass.0 in
     let zs = vectors (listed_sums f) in
     let held = layers_hold p phase zs (link_rests p c.point.rows) p.bricks c.point.rows f.potentials.rows in
@@ -83,11 +83,11 @@ lists_of p phase c f rules = record {
 
 -- the tests of the point, brick by brick
 within_of : (bs : List Brick) (x : Bricks) → all_zip is_within bs x ≡ true → AreWithin bs x
-within_of [] [] h = tt
-within_of [] (v ∷ x) h = absurd (cc)
-within_of (b ∷ bs) [] h = absurd (cc)
-within_of (b ∷ bs) (v ∷ x) h =
-    let q = and_true (is_within b v) (all_zip is_within bs x) h in (is_within_true b v q.0, within_of bs x q.1)
+within_of [] [] passes = tt
+within_of [] (v ∷ x) passes = absurd (cc)
+within_of (b ∷ bs) [] passes = absurd (cc)
+within_of (b ∷ bs) (v ∷ x) passes =
+    let q = and_true (is_within b v) (all_zip is_within bs x) passes in (is_within_true b v q.0, within_of bs x q.1)
 
 module _ (p : Program) where
   abbrev residual_none : Brick → Vector → Bool
@@ -95,11 +95,11 @@ module _ (p : Program) where
 
   meets_of : (bs : List Brick) (x : Bricks) → AllByRecursion (IsBrick p.brick.cols (length p.brick.rows)) bs →
       all_zip residual_none bs x ≡ true → AllZip (λ b v. product p.brick v ≡ b.right) bs x
-  meets_of [] [] is h = tt
-  meets_of [] (v ∷ x) is h = absurd (cc)
-  meets_of (b ∷ bs) [] is h = absurd (cc)
-  meets_of (b ∷ bs) (v ∷ x) is h =
-      let q = and_true (residual_none b v) (all_zip residual_none bs x) h in
+  meets_of [] [] is passes = tt
+  meets_of [] (v ∷ x) is passes = absurd (cc)
+  meets_of (b ∷ bs) [] is passes = absurd (cc)
+  meets_of (b ∷ bs) (v ∷ x) is passes =
+      let q = and_true (residual_none b v) (all_zip residual_none bs x) passes in
       let none = nat_eq_true (brick_residual p b v) 0 q.0 in (
         same_vector (product p.brick v) b.right (length-rows p.brick.rows v ∙ sym is.0.right_size)
             (norm_none (sub b.right (product p.brick v)) none),
@@ -108,8 +108,8 @@ module _ (p : Program) where
 
   -- by the rule on the point it is where the phase starts
   start_of : (phase : Phase) (x : Bricks) → IsProgram p → point_fits p phase x ≡ true → IsStart p phase x
-  start_of phase x program h =
-      let last = and_true (all_zip is_within p.bricks x && all_zip residual_none p.bricks x) (ends_test phase) h in
+  start_of phase x program passes =
+      let last = and_true (all_zip is_within p.bricks x && all_zip residual_none p.bricks x) (ends_test phase) passes in
       let both = and_true (all_zip is_within p.bricks x) (all_zip residual_none p.bricks x) last.0 in
       record {
         within = within_of p.bricks x both.0;
@@ -121,8 +121,8 @@ module _ (p : Program) where
       ends_test f = elim f [ Closed ↦ nat_eq (link_miss p (link_rests p x)) 0 | Counted ↦ true ]
 
       by : (f : Phase) → ends_test f ≡ true → AllowsEnd p f x
-      by Closed k = nat_eq_true (link_miss p (link_rests p x)) 0 k
-      by Counted k = tt
+      by Closed passes = nat_eq_true (link_miss p (link_rests p x)) 0 passes
+      by Counted passes = tt
 
 -- ---- the verdicts
 

@@ -24,16 +24,16 @@ use Rattle.run_theory.specs.declared.Claim.TheVariants as claim
 
 -- where no test is the first to fail, each passes
 pub all_pass : (tests : List (Rule × Bool)) → first_failing tests ≡ None → AllByRecursion (λ t. t.1 ≡ true) tests
-all_pass [] h = tt
-all_pass (test ∷ tests) h = by test.1 h (λ k. all_pass tests k)
+all_pass [] nothing = tt
+all_pass (test ∷ tests) nothing = by test.1 nothing (λ k. all_pass tests k)
   where
     others : Type 0
     others = AllByRecursion (λ t. t.1 ≡ true) tests
 
     by : (t : Bool) → cond t (first_failing tests) (Some test.0) ≡ None → (first_failing tests ≡ None → others) →
         (t ≡ true) × others
-    by true k rest = (refl, rest k)
-    by false k rest = absurd (cc)
+    by true nothing rest = (refl, rest nothing)
+    by false nothing rest = absurd (cc)
 
 -- the vector is stuck, and misses the rows
 record IsStuckAbove (p : Program) (b : Brick) (basis : List Vector) (x : Vector) : Type 0 where
@@ -44,10 +44,10 @@ record IsStuckAbove (p : Program) (b : Brick) (basis : List Vector) (x : Vector)
 rules_say : (p : Program) (c : Certificate) (b : Brick) (x : Vector) →
     IsProgram p → IsBrick p.link.cols (length p.brick.rows) b → first_failing (brick_rules p c b x) ≡ None →
     IsStuckAbove p b c.bricks.rows x
-rules_say p c b x program brick h =
+rules_say p c b x program brick nothing =
     let point = has_shape 1 p.brick.cols c.point in
     let members = has_shape (length c.bricks.rows) (p.brick.cols + length p.brick.rows) c.bricks in
-    let pass = all_pass (brick_rules p c b x) h in
+    let pass = all_pass (brick_rules p c b x) nothing in
     record {
       held = record {
         columns = brick.lower_size ∙ sym program.brick_shape.width;
@@ -65,8 +65,8 @@ rules_say p c b x program brick h =
 miss_holds : (p : Program) (c : Certificate) (number place : ℕ) (b : Brick) (x : Vector) →
     IsProgram p → number ≡ place + 1 → slice_get p.bricks place ≡ Some b → first_failing (brick_rules p c b x) ≡ None →
     Holds p (InfeasibleBrick number (brick_residual p b x))
-miss_holds p c number place b x program numbered there h =
-    let s = rules_say p c b x program (brick_at p place b program there) h in
+miss_holds p c number place b x program numbered there nothing =
+    let s = rules_say p c b x program (brick_at p place b program there) nothing in
     brick_miss_holds p number place b x numbered there s.held.within s.above
     (least_residual p b c.bricks.rows x s.held)
 
@@ -93,14 +93,14 @@ yes_holds p c i program h = shown (nat_eq i 0) refl (slice_get p.bricks (i - 1))
     residual (Some b) (x ∷ rest) = brick_residual p b x
 
     behind : (n : ℕ) → nat_eq n 0 ≡ false → n ≡ n - 1 + 1
-    behind n k = grind (arith, nat_tests)
+    behind n fails = grind (arith, nat_tests)
 
     shown : (t : Bool) → nat_eq i 0 ≡ t → (o : Option Brick) → slice_get p.bricks (i - 1) ≡ o → (rows : List Vector) →
         broken rows (cond t None o) ≡ None → Holds p (InfeasibleBrick i (residual o rows))
-    shown true none o there rows k = absurd (cc)
-    shown false some None there rows k = absurd (cc)
-    shown false some (Some b) there [] k = absurd (cc)
-    shown false some (Some b) there (x ∷ rest) k = miss_holds p c i (i - 1) b x program (behind i some) there k
+    shown true none o there rows nothing = absurd (cc)
+    shown false some None there rows nothing = absurd (cc)
+    shown false some (Some b) there [] nothing = absurd (cc)
+    shown false some (Some b) there (x ∷ rest) nothing = miss_holds p c i (i - 1) b x program (behind i some) there nothing
 
 -- what a certificate claims of a brick holds where it breaks no rule
 pub accepted_holds : (p : Program) (c : Certificate) (i : ℕ) →

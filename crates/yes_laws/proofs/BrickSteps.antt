@@ -17,21 +17,21 @@ is_no_help p b x y = not (is_within b y) || nat_le (brick_residual p b x) (brick
 
 -- what passes the test does not help
 no_help : (p : Program) (b : Brick) (x y : Vector) → is_no_help p b x y ≡ true → IsNoHelp p b x y
-no_help p b x y h inside = by (is_within b y) (is_within_of b y inside) (brick_residual p b x) (brick_residual p b y) h
+no_help p b x y passes inside = by (is_within b y) (is_within_of b y inside) (brick_residual p b x) (brick_residual p b y) passes
   where
     le_true : (m n : ℕ) → nat_le m n ≡ true → m ≤ n
-    le_true m n k = grind (arith, nat_tests)
+    le_true m n passes = grind (arith, nat_tests)
 
     by : (t : Bool) → t ≡ true → (m n : ℕ) → (not t || nat_le m n) ≡ true → m ≤ n
-    by true e m n k = le_true m n k
-    by false e m n k = absurd (cc)
+    by true e m n passes = le_true m n passes
+    by false e m n passes = absurd (cc)
 
 -- by the rule on the brick's steps, neither x + v nor x - v helps for a first part v
 no_help_by : (p : Program) (b : Brick) (x : Vector) (parts : List Vector) (v : Vector) →
     no_step_helps p b parts x ≡ true → Contains parts v → IsNoHelp p b x (add x v) × IsNoHelp p b x (sub x v)
-no_help_by p b x [] v h (k, low, e) = absurd (omega arith)
-no_help_by p b x (w ∷ parts) v h c =
-    let both = and_true (is_no_help p b x (add x w) && is_no_help p b x (sub x w)) (no_step_helps p b parts x) h in
+no_help_by p b x [] v passes (k, low, e) = absurd (omega arith)
+no_help_by p b x (w ∷ parts) v passes c =
+    let both = and_true (is_no_help p b x (add x w) && is_no_help p b x (sub x w)) (no_step_helps p b parts x) passes in
     let here = and_true (is_no_help p b x (add x w)) (is_no_help p b x (sub x w)) both.0 in
     elim (contains_cases w parts v c) [
       | inl e ↦

@@ -18,19 +18,19 @@ use Rattle.lattice_theory.specs.Lists.{all_zip}
 -- where a test passes at each listed vector and its cell, it passes at the cell that is looked up
 looked_up : (test : Vector → Option ℤ → Bool) (zs : List Vector) (row : List (Option ℤ)) (w : Vector)
     (here : Option ℤ) → all_zip test zs row ≡ true → potential_of zs row w ≡ Some here → test w here ≡ true
-looked_up test [] row w here h e = absurd (cc)
-looked_up test (z ∷ zs) [] w here h e = absurd (cc)
-looked_up test (z ∷ zs) (a ∷ row) w here h e =
-    let p = and_true (test z a) (all_zip test zs row) h in
+looked_up test [] row w here passes e = absurd (cc)
+looked_up test (z ∷ zs) [] w here passes e = absurd (cc)
+looked_up test (z ∷ zs) (a ∷ row) w here passes e =
+    let p = and_true (test z a) (all_zip test zs row) passes in
     by (same z w) refl e p.0 (λ k. looked_up test zs row w here p.1 k)
   where
     by : (t : Bool) → same z w ≡ t → cond t (Some a) (potential_of zs row w) ≡ Some here → test z a ≡ true →
         (potential_of zs row w ≡ Some here → test w here ≡ true) → test w here ≡ true
-    by true s k q rest =
+    by true s there q rest =
         let v : z ≡ w = same_true z w s in
         let b : a ≡ here = cc in
         subst (λ u. test u here ≡ true) v (subst (λ c. test z c ≡ true) b q)
-    by false s k q rest = rest k
+    by false s there q rest = rest there
 
 -- the row has a cell for this vector
 abbrev HasCell : List Vector → List (Option ℤ) → Vector → Type 0
@@ -39,10 +39,10 @@ HasCell zs row w = (here : Option ℤ) × (potential_of zs row w ≡ Some here)
 -- where a test passes at each listed vector and its cell, each listed vector has a cell
 has_cell : (test : Vector → Option ℤ → Bool) (zs : List Vector) (row : List (Option ℤ)) (w : Vector) →
     all_zip test zs row ≡ true → Contains zs w → HasCell zs row w
-has_cell test [] row w h (k, low, e) = absurd (omega arith)
-has_cell test (z ∷ zs) [] w h c = absurd (cc)
-has_cell test (z ∷ zs) (a ∷ row) w h c =
-    by (same z w) refl (λ d. has_cell test zs row w (and_true (test z a) (all_zip test zs row) h).1 d)
+has_cell test [] row w passes (k, low, e) = absurd (omega arith)
+has_cell test (z ∷ zs) [] w passes c = absurd (cc)
+has_cell test (z ∷ zs) (a ∷ row) w passes c =
+    by (same z w) refl (λ d. has_cell test zs row w (and_true (test z a) (all_zip test zs row) passes).1 d)
   where
     by : (t : Bool) → same z w ≡ t → (Contains zs w → HasCell zs row w) →
         (here : Option ℤ) × (cond t (Some a) (potential_of zs row w) ≡ Some here)
@@ -54,11 +54,11 @@ has_cell test (z ∷ zs) (a ∷ row) w h c =
 
 at_most_plus : (a b : Option ℤ) (d c : ℤ) → at_most a (plus d b) ≡ true → at_most b (Some c) ≡ true →
     at_most a (Some (d +ℤ c)) ≡ true
-at_most_plus a None d c h k = absurd (cc)
-at_most_plus None (Some b) d c h k = absurd (cc)
-at_most_plus (Some a) (Some b) d c h k =
-    let p = int_le_true a (d +ℤ b) h in
-    let q = int_le_true b c k in
+at_most_plus a None d c passes test = absurd (cc)
+at_most_plus None (Some b) d c passes test = absurd (cc)
+at_most_plus (Some a) (Some b) d c passes test =
+    let p = int_le_true a (d +ℤ b) passes in
+    let q = int_le_true b c test in
     int_le_of a (d +ℤ c) (omega (arith, ints, p, q))
 
 -- ---- walks
@@ -75,13 +75,13 @@ module _ (p : Program) (phase : Phase) (zs : List Vector) (rests : Vector) where
   -- the first of the rows has a cell for each listed sum
   first_cell : (bs : List Brick) (x : Bricks) (row : List (Option ℤ)) (rows : List (List (Option ℤ))) (w : Vector) →
       layers_hold p phase zs rests bs x (row ∷ rows) ≡ true → Contains zs w → HasCell zs row w
-  first_cell [] [] row [] w h c = has_cell _ zs row w h c
-  first_cell [] [] row (next ∷ rows) w h c = absurd (cc)
-  first_cell [] (v ∷ x) row rows w h c = absurd (cc)
-  first_cell (b ∷ bs) [] row rows w h c = absurd (cc)
-  first_cell (b ∷ bs) (v ∷ x) row [] w h c = absurd (cc)
-  first_cell (b ∷ bs) (v ∷ x) row (next ∷ rows) w h c =
-      let p = and_true (layer_holds phase zs b v row next) (layers_hold p phase zs rests bs x (next ∷ rows)) h in
+  first_cell [] [] row [] w passes c = has_cell _ zs row w passes c
+  first_cell [] [] row (next ∷ rows) w passes c = absurd (cc)
+  first_cell [] (v ∷ x) row rows w passes c = absurd (cc)
+  first_cell (b ∷ bs) [] row rows w passes c = absurd (cc)
+  first_cell (b ∷ bs) (v ∷ x) row [] w passes c = absurd (cc)
+  first_cell (b ∷ bs) (v ∷ x) row (next ∷ rows) w passes c =
+      let p = and_true (layer_holds phase zs b v row next) (layers_hold p phase zs rests bs x (next ∷ rows)) passes in
       has_cell _ zs row w p.0 c
 
   -- one layer: what the move d costs from the sum w, and then the potential of the sum behind it
@@ -109,10 +109,10 @@ module _ (p : Program) (phase : Phase) (zs : List Vector) (rests : Vector) where
       allowed : (o : Option (Option ℤ)) → o ≡ Some there → (t : Bool) → t ≡ true →
           elim o [ None ↦ true | Some a ↦ not t || at_most here (plus change a) ] ≡ true →
           at_most here (plus change there) ≡ true
-      allowed None q t s k = absurd (cc)
-      allowed (Some a) q true s k =
-          let same_cell : a ≡ there = cc in subst (λ g. at_most here (plus change g) ≡ true) same_cell k
-      allowed (Some a) q false s k = absurd (cc)
+      allowed None q t s passes = absurd (cc)
+      allowed (Some a) q true s passes =
+          let same_cell : a ≡ there = cc in subst (λ g. at_most here (plus change g) ≡ true) same_cell passes
+      allowed (Some a) q false s passes = absurd (cc)
 
   -- the listed potential of a sum is at most the cost of each walk from it
   pub walk_bound : (bs : List Brick) (x : Bricks) (row : List (Option ℤ)) (rows : List (List (Option ℤ)))

@@ -17,9 +17,9 @@ record IsSumAt (sums : List Sum) (level : ℕ) (w : Vector) : Type 0 where
 
 -- by the test
 sum_at : (sums : List Sum) (level : ℕ) (w : Vector) → is_sum_within sums level w ≡ true → IsSumAt sums level w
-sum_at [] level w h = absurd (cc)
-sum_at (s ∷ sums) level w h =
-    by (same s.vector w) (nat_le s.level level) refl refl h (λ k. further (sum_at sums level w k))
+sum_at [] level w passes = absurd (cc)
+sum_at (s ∷ sums) level w passes =
+    by (same s.vector w) (nat_le s.level level) refl refl passes (λ k. further (sum_at sums level w k))
   where
     further : IsSumAt sums level w → IsSumAt (s ∷ sums) level w
     further r = record {
@@ -32,14 +32,14 @@ sum_at (s ∷ sums) level w h =
     by : (b d : Bool) → same s.vector w ≡ b → nat_le s.level level ≡ d →
         ((b && d) || is_sum_within sums level w) ≡ true →
         (is_sum_within sums level w ≡ true → IsSumAt (s ∷ sums) level w) → IsSumAt (s ∷ sums) level w
-    by true true p q k rest = record {
+    by true true p q passes rest = record {
       member = s;
       listed = contains_head s sums;
       is = same_true s.vector w p;
       low = le_true s.level level q;
     }
-    by true false p q k rest = rest k
-    by false d p q k rest = rest k
+    by true false p q passes rest = rest passes
+    by false d p q passes rest = rest passes
 
 module _ (t : ℕ) (gens : List Vector) (bound : ℕ) (sums : List Sum)
     (closed : sums_are_closed t gens bound sums ≡ true) where
@@ -77,8 +77,8 @@ module _ (t : ℕ) (gens : List Vector) (bound : ℕ) (sums : List Sum)
     where
       by : (b : Bool) → nat_le bound a.member.level ≡ b → (b || list_all (one_more a.member) gens) ≡ true →
           list_all (one_more a.member) gens ≡ true
-      by true p k = absurd (omega (arith, le_true bound a.member.level p, a.low, below))
-      by false p k = k
+      by true p passes = absurd (omega (arith, le_true bound a.member.level p, a.low, below))
+      by false p passes = passes
 
   -- each sum of at most so many signed generators is listed, at no higher level
   sum_listed : (n : ℕ) (w : Vector) → n ≤ bound → IsSignedSum t gens n w → IsSumAt sums n w
@@ -100,6 +100,7 @@ module _ (t : ℕ) (gens : List Vector) (bound : ℕ) (sums : List Sum)
                 (sum_at sums level (sub v g) both.1)
           ]
 
+  -- so all of them are among the listed vectors
   pub all_listed : (n : ℕ) (w : Vector) → n ≤ bound → IsSignedSum t gens n w → Contains (vectors sums) w
   all_listed n w low is =
       let a = sum_listed n w low is in

@@ -31,11 +31,12 @@ module _ (p : Program) (phase : Phase) (zs : List Vector) (rests : Vector) (x : 
       test o = elim o [ None ↦ false | Some first ↦ at_most (Some (pos 0)) first ]
 
       by : (o : Option (Option ℤ)) → potential_of zs row (zeros p.brick.cols) ≡ o → test o ≡ true → pos 0 ≤ℤ c
-      by None e k = absurd (cc)
-      by (Some first) e k =
-          not_negative first c k
+      by None e passes = absurd (cc)
+      by (Some first) e passes =
+          not_negative first c passes
           (walk_bound p phase zs rests p.bricks x row rows (zeros p.brick.cols) first h c layers e walk)
 
+-- so no unit step leads to a lower phase cost
 pub no_unit_step_gains : (p : Program) (phase : Phase) (zs : List Vector) (x : Bricks) (rows : List (List (Option ℤ))) →
     IsProgram p → AreWithin p.bricks x → layers_hold p phase zs (link_rests p x) p.bricks x rows ≡ true →
     starts_at_zero p zs rows ≡ true → (h : Bricks) → IsUnitStep p phase zs x h →
