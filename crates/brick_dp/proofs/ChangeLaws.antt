@@ -11,7 +11,7 @@ use Rattle.fold_theory.specs.declared.Phase.{Phase}
 use Rattle.fold_theory.specs.declared.Phase.TheVariants.{Closed}
 use Rattle.lattice_theory.specs.Vectors.{Vector, scale}
 use Rattle.lattice_laws.proofs.Conformal.{length-add}
-use Rattle.fold_laws.proofs.Multiples.{length-scale}
+use Rattle.lattice_laws.proofs.Multiples.{length-scale}
 use Rattle.fold_theory.specs.Programs.{Program, IsProgram, Brick, IsBrick, brick_cost}
 use Rattle.fold_program.specs.Places.{OfBrick}
 use Rattle.fold_program.specs.Refusals.{brick_magnitude, total_magnitude}
