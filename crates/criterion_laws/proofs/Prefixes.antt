@@ -79,14 +79,23 @@ module _ (m : Matrix) (basis : List Vector) where
       covering_prefixes (record { elements = elements_of second.0; covers = complete_covers m basis complete })
       second.0 second.1
 
+  -- by it the element of each unit vector is a member
+  prefixes_listed : is_complete_by_prefixes m basis ≡ true → (j : ℕ) → j < m.cols →
+      Contains basis (element m (unit_vector m.cols j))
+  prefixes_listed passes j low =
+      let units = list_all is_unit_listed (numbers_from 0 m.cols) in
+      let first = and_true (signed && rising && units) (clashes_settle m.cols basis basis) passes in
+      listed_member basis (element m (unit_vector m.cols j))
+      (list_all_at is_unit_listed (numbers_from 0 m.cols) j (and_true (signed && rising) units first.0).1
+      (numbered 0 m.cols j (omega arith) (omega arith)))
+
   prefixes_complete : is_complete_by_prefixes m basis ≡ true → is_complete_for m basis ≡ true
   prefixes_complete passes =
       let units = list_all is_unit_listed (numbers_from 0 m.cols) in
       let first = and_true (signed && rising && units) (clashes_settle m.cols basis basis) passes in
       let before = and_true (signed && rising) units first.0 in
       let second = and_true signed rising before.0 in
-      let listed = λ (j : ℕ) (low : j < m.cols). listed_member basis (element m (unit_vector m.cols j))
-      (list_all_at is_unit_listed (numbers_from 0 m.cols) j before.1 (numbered 0 m.cols j (omega arith) (omega arith))) in
+      let listed = λ (j : ℕ) (low : j < m.cols). prefixes_listed passes j low in
       covering_complete m basis (record {
         elements = elements_of second.0;
         covers = settled_covers m basis (elements_of second.0) listed first.1;
@@ -103,3 +112,9 @@ pub prefixes_decide : (m : Matrix) (basis : List Vector) → is_complete_by_pref
 prefixes_decide m basis =
     both_ways (is_complete_by_prefixes m basis) (is_complete_for m basis)
     (prefixes_complete m basis) (complete_prefixes m basis)
+
+-- a complete list has the element of each unit vector
+pub complete_listed : (m : Matrix) (basis : List Vector) → is_complete_for m basis ≡ true → (j : ℕ) → j < m.cols →
+    Contains basis (element m (unit_vector m.cols j))
+complete_listed m basis complete j low =
+    prefixes_listed m basis (cc (prefixes_decide m basis)) j low
