@@ -1,5 +1,10 @@
-//! Where a step leads that one brick takes: its vector after `2^k` times the step's part, where that is within the bounds.
+//! Where a step leads that one brick takes: its vector after `2^k` times the step's part, where that is within the bounds;
+//! and what a sum of parts changes of a linking row.
 #![tactic(auto)]
+
+mod images;
+
+pub use images::image;
 
 ghost use Rattle.std.specs.Prelude.{◌≡◌, ◌<◌, ◌≤◌, ◌^◌, ℤ, pos, ◌+ℤ◌, ◌*ℤ◌, ◌≤ℤ◌, length, SomeIff, IfOk};
 ghost use Rattle.step_targets.specs.Targets.{Leads, after};

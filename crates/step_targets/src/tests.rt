@@ -1,6 +1,6 @@
 //! Steps of one brick, at values worked by hand.
 
-use crate::target;
+use crate::{image, target};
 use std::alloc::AllocError;
 use std::rt::HostRuntime;
 
@@ -22,4 +22,10 @@ fn the_longest_step_crosses_the_widest_bounds(rt: HostRuntime) -> Result<(), All
     assert!(rt; found.is_some_and(|v| v.as_slice() == [wide].as_slice()));
     assert!(rt; target(rt.alloc(), &[-wide], &[wide], &[-wide], &[i64::MAX], 63)?.is_none());
     Ok(())
+}
+
+#[test]
+fn an_image_is_the_sum_of_products(rt: HostRuntime) {
+    assert_eq!(rt; image(&[2, -3], &[5, 7]), -11);
+    assert_eq!(rt; image(&[-1], &[i64::MIN]), 1 << 63);
 }
