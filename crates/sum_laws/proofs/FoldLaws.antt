@@ -12,8 +12,8 @@ use Rattle.fold_theory.specs.Programs.{Program}
 use Rattle.run_theory.specs.Links.{Bases, AreBases, generators, links_of, fold_complexity}
 use Rattle.run_theory.specs.BrickSums.{AreBrickSums}
 use Rattle.run_theory.specs.Folds.{IsSmallImage}
-use Rattle.yes_laws.proofs.Generators.{IsGenerator}
-use Rattle.run_laws.proofs.Frames.{slack_generators}
+use Rattle.piece_laws.proofs.Generators.{IsGenerator}
+use Rattle.piece_laws.proofs.Frames.{slack_generators}
 use Rattle.brick_sums.proofs.SumLaws.{IsSignedSum-width}
 use Rattle.graver_complexity.proofs.MultipleLaws.{AreSums-many}
 use Rattle.graver_complexity.proofs.SizeLaws.{IsSignedSum-images}
