@@ -18,6 +18,8 @@ use Rattle.lattice_laws.proofs.VectorLists.{length-sum}
 use Rattle.piece_laws.proofs.PointParts.{point_parts}
 use Rattle.piece_laws.specs.Points.{forth, back, ArePartsOf, way}
 use Rattle.run_theory.specs.Walks.{walk_end}
+use Rattle.run_theory.specs.Steps.{moved}
+use Rattle.lattice_laws.proofs.Multiples.{scale_once}
 
 module _ (t : ℕ) where
   -- the vectors of x + h, of y - h, and of parts have t entries
@@ -228,3 +230,11 @@ pub walk_end_is : (t : ℕ) (w : Vector) (h : Bricks) → length w ≡ t → Are
 walk_end_is t w [] size sized = sym (add_zeros w t size)
 walk_end_is t w (d ∷ h) size sized =
     walk_end_is t (add w d) h (length-add w d t size sized.0) sized.1 ∙ sym (add_assoc_v w d (sum_of t h))
+
+-- ---- steps of length 1
+
+-- after once the move
+pub moved_once : (x h : Bricks) → moved x 0 h ≡ forth x h
+moved_once [] h = refl
+moved_once (v ∷ x) [] = refl
+moved_once (v ∷ x) (d ∷ h) = λ i. add v (scale_once d i) ∷ moved_once x h i

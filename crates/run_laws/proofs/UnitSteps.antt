@@ -9,17 +9,11 @@ use Rattle.lattice_laws.specs.VectorLists.{AreSized}
 use Rattle.lattice_laws.proofs.Tests.{and_true, true_or_false}
 use Rattle.lattice_laws.proofs.Products.{zeros_is}
 use Rattle.lattice_laws.proofs.Sums.{add_zeros}
-use Rattle.lattice_laws.proofs.Multiples.{scale_once}
 use Rattle.fold_theory.specs.Programs.{Program, Bricks, AreWithin, phase_cost}
-use Rattle.run_theory.specs.Steps.{moved, partial_sums, AllowsEnd, IsCandidate, NoneAugments}
+use Rattle.run_theory.specs.Steps.{partial_sums, AllowsEnd, IsCandidate, NoneAugments}
 use Rattle.piece_laws.specs.Points.{forth}
 use Rattle.piece_laws.specs.Pieces.{IsUnitStep}
-
--- after once the move
-pub moved_once : (x h : Bricks) → moved x 0 h ≡ forth x h
-moved_once [] h = refl
-moved_once (v ∷ x) [] = refl
-moved_once (v ∷ x) (d ∷ h) = λ i. add v (scale_once d i) ∷ moved_once x h i
+use Rattle.piece_laws.proofs.Points.{moved_once}
 
 -- a move of zeros leads nowhere
 forth_none : (t : ℕ) (x h : Bricks) → AreSized t x → AreSized t h → length h ≡ length x → list_all is_zero h ≡ true →

@@ -111,20 +111,17 @@ moved_nothing t k (v ∷ x) (d ∷ h) same wx wh zero =
     let here : add v (scale (pos (2 ^ k)) d) ≡ v = ap (add v) none ∙ add_zeros v (length d) (All-head P v x wx ∙ sym (All-head P d h wh)) in
     λ i. here i ∷ moved_nothing t k x h (omega arith) (All-tail P v x wx) (All-tail P d h wh) parts.1 i
 
-module _ (p : Program) (zs : List Vector) (t k : ℕ) (x : Bricks) (wx : All (λ v. length v ≡ t) x) (widths : All (λ z. length z ≡ t) zs) where
-  moves_sized : (h : Bricks) → IsWalk zs k p.bricks x (zeros t) h → All (λ v. length v ≡ t) h
-  moves_sized h w i d low = All-contains (λ v. length v ≡ t) zs (get_or h i d) widths (w.moves i d low)
-
+module _ (p : Program) (zs : List Vector) (t k : ℕ) (x : Bricks) (wx : All (λ v. length v ≡ t) x) where
   -- what a walk costs is what the phase cost changes by, and the phase allows its end
-  pub walk_steps : (phase : Phase) (h : Bricks) (c : ℤ) → WalkCosts p phase zs k (link_rests p x) p.bricks x (zeros t) h c →
+  pub sized_walk_steps : (phase : Phase) (h : Bricks) (c : ℤ) → All (λ v. length v ≡ t) h → WalkCosts p phase zs k (link_rests p x) p.bricks x (zeros t) h c →
       AllowsEnd p phase (moved x k h) × (c ≡ phase_cost p phase (moved x k h) -ℤ phase_cost p phase x)
-  walk_steps Closed h c wc = by (nat_eq (link_miss p now) 0) refl
+  sized_walk_steps Closed h c wh wc = by (nat_eq (link_miss p now) 0) refl
     where
       now : Vector
       now = sub (link_rests p x) (scale (pos (2 ^ k)) (product p.link (walk_end (zeros t) h)))
 
       rests : link_rests p (moved x k h) ≡ now
-      rests = rests_moved p t k x h wc.walk.size wx (moves_sized h wc.walk)
+      rests = rests_moved p t k x h wc.walk.size wx wh
 
       by : (b : Bool) → nat_eq (link_miss p now) 0 ≡ b → AllowsEnd p Closed (moved x k h) × (c ≡ phase_cost p Closed (moved x k h) -ℤ phase_cost p Closed x)
       by true e =
@@ -132,20 +129,20 @@ module _ (p : Program) (zs : List Vector) (t k : ℕ) (x : Bricks) (wx : All (λ
           let free : wc.last ≡ pos 0 = free_end (nat_eq (link_miss p now) 0) wc.last e wc.ends in
           (ap (link_miss p) rests ∙ met, omega (arith, ints, wc.is, free, closed_change k p.bricks x h wc.walk.size))
       by false e = absurd (no_end (nat_eq (link_miss p now) 0) wc.last e wc.ends)
-  walk_steps Counted h c wc = (
+  sized_walk_steps Counted h c wh wc = (
     tt,
     let rests : link_rests p (moved x k h) ≡ sub (link_rests p x) (scale (pos (2 ^ k)) (product p.link (walk_end (zeros t) h))) =
-        rests_moved p t k x h wc.walk.size wx (moves_sized h wc.walk) in
+        rests_moved p t k x h wc.walk.size wx wh in
         let last : wc.last ≡ pos (link_miss p (link_rests p (moved x k h))) -ℤ pos (link_miss p (link_rests p x)) =
         sym (some_is _ _ wc.ends) ∙ ap (λ r. pos (link_miss p r) -ℤ pos (link_miss p (link_rests p x))) (sym rests) in
         omega (arith, ints, wc.is, last, counted_change k p.bricks x h),
   )
 
   -- a walk to an end that the phase allows costs what the phase cost changes by
-  pub step_walks : (phase : Phase) (h : Bricks) → IsWalk zs k p.bricks x (zeros t) h → AllowsEnd p phase (moved x k h) →
+  pub sized_step_walks : (phase : Phase) (h : Bricks) → All (λ v. length v ≡ t) h → IsWalk zs k p.bricks x (zeros t) h → AllowsEnd p phase (moved x k h) →
       WalkCosts p phase zs k (link_rests p x) p.bricks x (zeros t) h (phase_cost p phase (moved x k h) -ℤ phase_cost p phase x)
-  step_walks Closed h w allowed =
-      let rests = rests_moved p t k x h w.size wx (moves_sized h w) in
+  sized_step_walks Closed h wh w allowed =
+      let rests = rests_moved p t k x h w.size wx wh in
       let met : link_miss p (sub (link_rests p x) (scale (pos (2 ^ k)) (product p.link (walk_end (zeros t) h)))) ≡ 0 = ap (link_miss p) (sym rests) ∙ allowed in
       record {
         walk = w;
@@ -153,11 +150,24 @@ module _ (p : Program) (zs : List Vector) (t k : ℕ) (x : Bricks) (wx : All (λ
         ends = ap (λ n. cond (nat_eq n 0) (Some (pos 0)) None) met;
         is = omega (arith, ints, closed_change k p.bricks x h w.size);
       }
-  step_walks Counted h w allowed =
-      let rests = rests_moved p t k x h w.size wx (moves_sized h w) in
+  sized_step_walks Counted h wh w allowed =
+      let rests = rests_moved p t k x h w.size wx wh in
       record {
         walk = w;
         last = pos (link_miss p (link_rests p (moved x k h))) -ℤ pos (link_miss p (link_rests p x));
         ends = ap (λ r. Some (pos (link_miss p r) -ℤ pos (link_miss p (link_rests p x)))) (sym rests);
         is = omega (arith, ints, counted_change k p.bricks x h);
       }
+
+-- the same by the widths of the listed sums
+module _ (p : Program) (zs : List Vector) (t k : ℕ) (x : Bricks) (wx : All (λ v. length v ≡ t) x) (widths : All (λ z. length z ≡ t) zs) where
+  moves_sized : (h : Bricks) → IsWalk zs k p.bricks x (zeros t) h → All (λ v. length v ≡ t) h
+  moves_sized h w i d low = All-contains (λ v. length v ≡ t) zs (get_or h i d) widths (w.moves i d low)
+
+  pub walk_steps : (phase : Phase) (h : Bricks) (c : ℤ) → WalkCosts p phase zs k (link_rests p x) p.bricks x (zeros t) h c →
+      AllowsEnd p phase (moved x k h) × (c ≡ phase_cost p phase (moved x k h) -ℤ phase_cost p phase x)
+  walk_steps phase h c wc = sized_walk_steps p zs t k x wx phase h c (moves_sized h wc.walk) wc
+
+  pub step_walks : (phase : Phase) (h : Bricks) → IsWalk zs k p.bricks x (zeros t) h → AllowsEnd p phase (moved x k h) →
+      WalkCosts p phase zs k (link_rests p x) p.bricks x (zeros t) h (phase_cost p phase (moved x k h) -ℤ phase_cost p phase x)
+  step_walks phase h w allowed = sized_step_walks p zs t k x wx phase h (moves_sized h w) w allowed

@@ -1,5 +1,5 @@
 -- Listed potentials that hold layer by layer bound the cost of each walk of length 1 from below.
-use Rattle.std.proofs.Common.{◌≡◌, ℤ, ◌+ℤ◌, Bool, true, false, ◌||◌, not, cond, List, [], ◌∷◌, refl, ap, arith, sym, Contains, Option, Some, None, inl, inr, subst}
+use Rattle.std.proofs.Common.{◌≡◌, ℤ, ◌+ℤ◌, Bool, true, false, ◌||◌, not, cond, List, [], ◌∷◌, refl, ap, arith, sym, Contains, Option, Some, None, inl, inr, subst, ◌∙◌}
 use Rattle.std.proofs.lemmas.Int.{ints}
 use Rattle.std.specs.List.{list_all}
 use Rattle.fold_theory.specs.declared.Phase.{Phase}
@@ -8,10 +8,12 @@ use Rattle.lattice_theory.specs.Matrices.{product}
 use Rattle.lattice_laws.proofs.Tests.{and_true, same_true, same_refl, int_le_true, int_le_of}
 use Rattle.lattice_laws.proofs.Members.{contains_cases, list_all_at}
 use Rattle.fold_theory.specs.Programs.{Program, Brick, Bricks, is_within, IsWithin}
-use Rattle.run_theory.specs.Walks.{brick_change, end_cost}
+use Rattle.run_theory.specs.Walks.{brick_change, end_cost, WalkCosts}
 use Rattle.run_theory.specs.Checker.{at_most, plus, potential_of, layer_holds, layers_hold}
 use Rattle.piece_laws.proofs.Bounds.{is_within_of}
 use Rattle.lattice_theory.specs.Lists.{all_zip}
+use Rattle.walk_laws.proofs.Walks.{front_of}
+use Rattle.lattice_laws.proofs.Multiples.{scale_once}
 
 -- ---- cells
 
@@ -64,14 +66,6 @@ at_most_plus (Some a) (Some b) d c passes test =
 -- ---- walks
 
 module _ (p : Program) (phase : Phase) (zs : List Vector) (rests : Vector) where
-  -- a walk of length 1 from the sum w through these bricks costs this much
-  abbrev pub UnitWalk : List Brick → Bricks → Vector → Bricks → ℤ → Type 0
-  UnitWalk [] [] w [] c = end_cost p phase rests (product p.link w) ≡ Some c
-  UnitWalk (b ∷ bs) (v ∷ x) w (d ∷ h) c =
-      Contains zs d × Contains zs (add w d) × IsWithin b (add v d)
-      × ((r : ℤ) × UnitWalk bs x (add w d) h r × (c ≡ (brick_change phase b v (add v d) +ℤ r)))
-  UnitWalk bs x w h c = ⊥
-
   -- the first of the rows has a cell for each listed sum
   first_cell : (bs : List Brick) (x : Bricks) (row : List (Option ℤ)) (rows : List (List (Option ℤ))) (w : Vector) →
       layers_hold p phase zs rests bs x (row ∷ rows) ≡ true → Contains zs w → HasCell zs row w
@@ -114,24 +108,37 @@ module _ (p : Program) (phase : Phase) (zs : List Vector) (rests : Vector) where
           let same_cell : a ≡ there = cc in subst (λ g. at_most here (plus change g) ≡ true) same_cell passes
       allowed (Some a) q false s passes = absurd (cc)
 
+  -- at the last layer a walk has no move, and costs what its end costs
+  last_bound : (row : List (Option ℤ)) (w : Vector) (here : Option ℤ) (h : Bricks) (c : ℤ) →
+      layers_hold p phase zs rests [] [] (row ∷ []) ≡ true → potential_of zs row w ≡ Some here →
+      WalkCosts p phase zs 0 rests [] [] w h c → at_most here (Some c) ≡ true
+  last_bound row w here [] c holds e walk =
+      let at_w = looked_up (λ w here. at_most here (end_cost p phase rests (product p.link w))) zs row w here holds e in
+      let ends : end_cost p phase rests (product p.link w) ≡ Some walk.last =
+      ap (end_cost p phase rests) (sym (scale_once (product p.link w))) ∙ walk.ends in
+      let is : walk.last ≡ c = omega (arith, ints, walk.is) in
+      subst (λ a. at_most here (Some a) ≡ true) is (subst (λ o. at_most here o ≡ true) ends at_w)
+  last_bound row w here (d ∷ h) c holds e walk = absurd (omega (arith, walk.walk.size))
+
   -- the listed potential of a sum is at most the cost of each walk from it
   pub walk_bound : (bs : List Brick) (x : Bricks) (row : List (Option ℤ)) (rows : List (List (Option ℤ)))
       (w : Vector) (here : Option ℤ) (h : Bricks) (c : ℤ) → layers_hold p phase zs rests bs x (row ∷ rows) ≡ true →
-      potential_of zs row w ≡ Some here → UnitWalk bs x w h c → at_most here (Some c) ≡ true
-  walk_bound [] [] row [] w here [] c holds e walk =
-      let t = looked_up (λ w here. at_most here (end_cost p phase rests (product p.link w))) zs row w here holds e in
-      subst (λ o. at_most here o ≡ true) walk t
-  walk_bound [] [] row [] w here (d ∷ h) c holds e walk = absurd walk
+      potential_of zs row w ≡ Some here → WalkCosts p phase zs 0 rests bs x w h c → at_most here (Some c) ≡ true
+  walk_bound [] [] row [] w here h c holds e walk = last_bound row w here h c holds e walk
   walk_bound [] [] row (next ∷ rows) w here h c holds e walk = absurd (cc)
   walk_bound [] (v ∷ x) row rows w here h c holds e walk = absurd (cc)
   walk_bound (b ∷ bs) [] row rows w here h c holds e walk = absurd (cc)
   walk_bound (b ∷ bs) (v ∷ x) row [] w here h c holds e walk = absurd (cc)
-  walk_bound (b ∷ bs) (v ∷ x) row (next ∷ rows) w here [] c holds e walk = absurd walk
+  walk_bound (b ∷ bs) (v ∷ x) row (next ∷ rows) w here [] c holds e walk = absurd (omega (arith, walk.walk.size))
   walk_bound (b ∷ bs) (v ∷ x) row (next ∷ rows) w here (d ∷ h) c holds e walk =
+      let f = front_of p phase zs 0 rests b bs v x w d h c walk in
+      let once = ap (add v) (scale_once d) in
       let change = brick_change phase b v (add v d) in
       let after = layers_hold p phase zs rests bs x (next ∷ rows) in
       let parts = and_true (layer_holds phase zs b v row next) after holds in
-      let cell = first_cell bs x next rows (add w d) parts.1 walk.1 in
-      let rest = walk_bound bs x next rows (add w d) cell.0 h walk.3.0 parts.1 cell.1 walk.3.1 in
-      let step = layer_bound b v row next w d here cell.0 parts.0 e cell.1 walk.0 walk.2 in
-      subst (λ k. at_most here (Some k) ≡ true) (sym walk.3.2) (at_most_plus here cell.0 change walk.3.0 step rest)
+      let cell = first_cell bs x next rows (add w d) parts.1 f.sum in
+      let rest = walk_bound bs x next rows (add w d) cell.0 h f.rest parts.1 cell.1 f.walk in
+      let within : IsWithin b (add v d) = subst (IsWithin b) once f.within in
+      let step = layer_bound b v row next w d here cell.0 parts.0 e cell.1 f.move within in
+      let is : c ≡ change +ℤ f.rest = f.is ∙ ap (λ u. brick_change phase b v u +ℤ f.rest) once in
+      subst (λ k. at_most here (Some k) ≡ true) (sym is) (at_most_plus here cell.0 change f.rest step rest)

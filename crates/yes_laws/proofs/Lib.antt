@@ -1,7 +1,6 @@
 pub mod BrickSteps
 pub mod BrickMisses
 pub mod Layers
-pub mod UnitWalks
 pub mod Potentials
 pub mod ListedSums
 pub mod Accepted

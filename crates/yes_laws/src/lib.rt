@@ -3,13 +3,14 @@
 //! hold, the potentials say that no such piece lowers the cost, and the rest of the way is shorter.
 #![tactic(auto)]
 
-ghost use Rattle.std.specs.Prelude.{◌≡◌, ◌≤ℤ◌, ℕ, ℤ, List, Option, IsTrue};
+ghost use Rattle.std.specs.Prelude.{◌≡◌, ◌≤ℤ◌, ℕ, ℤ, List, ◌∷◌, Option, Some, IsTrue};
 ghost use Rattle.run_theory.specs.declared.Claim.TheVariants as claim;
 ghost use Rattle.lattice_theory.specs.Vectors.{Vector};
 ghost use Rattle.fold_theory.specs.declared.Phase.{Phase};
-ghost use Rattle.fold_theory.specs.Programs.{Program, Bricks, IsProgram, AreWithin, link_rests, phase_cost};
+ghost use Rattle.fold_theory.specs.Programs.{Program, Brick, Bricks, IsProgram, AreWithin, link_rests, phase_cost};
 ghost use Rattle.run_theory.specs.Certificates.{Certificate};
-ghost use Rattle.run_theory.specs.Checker.{Accept, claimed_verdict, layers_hold, starts_at_zero};
+ghost use Rattle.run_theory.specs.Checker.{Accept, claimed_verdict, layers_hold, starts_at_zero, potential_of, at_most};
+ghost use Rattle.run_theory.specs.Walks.{WalkCosts};
 ghost use Rattle.fold_theory.specs.Verdicts.{Holds};
 ghost use Rattle.piece_laws.specs.Points.{forth};
 ghost use Rattle.piece_laws.specs.Pieces.{IsUnitStep};
@@ -27,6 +28,14 @@ pub fn a_yes_holds()
 pub fn a_yes_on_a_brick_holds()
     ensures { (p : Program) (c : Certificate) (i : ℕ) →
         IsProgram p → c.claim ≡ claim.InfeasibleBrick i → Accept p c → Holds p (claimed_verdict p c) }
+{}
+
+/// Law: where listed potentials hold layer by layer, that of a sum is at most the cost of each walk of length 1 from it.
+pub fn a_listed_potential_bounds_each_walk()
+    ensures { (p : Program) (phase : Phase) (zs : List Vector) (rests : Vector) (bricks : List Brick) (x : Bricks)
+        (row : List (Option ℤ)) (rows : List (List (Option ℤ))) (w : Vector) (here : Option ℤ) (h : Bricks) (c : ℤ) →
+        IsTrue (layers_hold p phase zs rests bricks x (row ∷ rows)) → potential_of zs row w ≡ Some here →
+        WalkCosts p phase zs 0 rests bricks x w h c → IsTrue (at_most here (Some c)) }
 {}
 
 /// Law: where listed potentials hold layer by layer, and that of zero at the beginning is not negative, no unit step of
