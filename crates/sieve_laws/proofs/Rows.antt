@@ -12,7 +12,7 @@ use Rattle.fold_theory.specs.Programs.{Program, Brick, Bricks, IsWithin}
 use Rattle.lattice_theory.specs.Vectors.{Vector, lex_cmp, lex_less, is_rising, add, scale, zeros}
 use Rattle.run_theory.specs.Walks.{brick_change, WalkCosts}
 use Rattle.lattice_laws.proofs.Multiples.{scale-zeros}
-use Rattle.lattice_laws.proofs.Agreement.{add_zeros}
+use Rattle.lattice_laws.proofs.Sums.{add_zeros}
 use Rattle.walk_laws.proofs.Orders.{rising_places, first_decides, tails_decide}
 use Rattle.walk_laws.proofs.Walks.{Front, front_of, walk_of}
 use Rattle.walk_laws.proofs.BestWalks.{IsLeastWalk, IsLeastRow, IsBestWalk, BeginsBest}
