@@ -79,7 +79,8 @@ at_most_sixty b sums moves same bases are run =
     ap (λ zs. bound_number the_program zs * binary_digits 4) same in
     omega (
       arith,
-      few_steps the_program Closed b sums the_start best_point moves (is_a_program Equal 3 4) bases are it_is_a_start run,
+      few_steps the_program Closed b sums the_start best_point moves (is_a_program Equal 3 4) bases are it_is_a_start
+          run,
       whole,
     )
 

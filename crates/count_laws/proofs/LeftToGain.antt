@@ -67,7 +67,8 @@ module _ (p : Program) (phase : Phase) (program : IsProgram p) (x : Bricks) (at_
     rest_image : image p (way x (back y h)) ≡ sub (image p (way x y)) (scale (pos m) (image p q.move))
     rest_image =
         ap (image p) rest
-        ∙ image-back t p (way x y) h sway (parts-sized t h (way x y) u.parts sway) (length_all_zip ◌⊑◌ h (way x y) u.parts)
+        ∙ image-back t p (way x y) h sway (parts-sized t h (way x y) u.parts sway)
+            (length_all_zip ◌⊑◌ h (way x y) u.parts)
         ∙ ap (sub (image p (way x y))) (image-times p t m q.move)
 
     nearer_by : Nearer y

@@ -1,5 +1,5 @@
--- Lists of elements that cover a lattice: a reduction by such a list ends only where no member is below, so each element
--- reduces to 0, and the list passes Pottier's criterion.
+-- Lists of elements that cover a lattice: a reduction by such a list ends only where no member is below, so each
+-- element reduces to 0, and the list passes Pottier's criterion.
 use Rattle.std.proofs.Common.{◌≡◌, ℕ, zero, suc, ◌*◌, ◌<◌, ◌≤◌, pos, Bool, true, false, cond, List, [], ◌∷◌, Option, Some, None, refl, ap, arith, sym, ◌∙◌, Contains, inl, inr, subst, ◌&&◌}
 use Rattle.lattice_theory.specs.Vectors.{Vector, ◌⊑◌, conforms, is_zero, norm1, sub, scale, opposite, add, is_rising}
 use Rattle.lattice_theory.specs.Matrices.{Matrix, element, unit_vector}

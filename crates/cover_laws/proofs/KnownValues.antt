@@ -1,7 +1,8 @@
 -- Members of lattices and Graver bases at matrices worked by hand: the rows (1 1) and (1 2).
 use Rattle.std.proofs.Common.{inl, arith}
 use Rattle.cover_laws.specs.ConformalSums.{ConformalSum}
-use Rattle.std.specs.Prelude.{◌≡◌, pos, neg_ℤ, ◌∷◌, true, false, refl}
+use Rattle.lattice_theory.specs.Vectors.{Vector}
+use Rattle.std.specs.Prelude.{List, ◌≡◌, pos, neg_ℤ, ◌∷◌, true, false, refl}
 use Rattle.lattice_theory.specs.Vectors.{conforms, is_zero}
 use Rattle.lattice_theory.specs.Matrices.{Matrix, product}
 use Rattle.lattice_theory.specs.Lattices.{kernel}
@@ -26,8 +27,12 @@ pub below_its_double : conforms (pos 2 ∷ neg_ℤ (pos 1) ∷ []) (pos 4 ∷ ne
 below_its_double = refl
 
 -- the slack basis of this row has four members, of which one has image 0
-pub listed : kernel 2 ((pos 0 ∷ pos 1 ∷ pos 2 ∷ []) ∷ (pos 1 ∷ neg_ℤ (pos 1) ∷ neg_ℤ (pos 1) ∷ []) ∷ (pos 1 ∷ pos 0 ∷ pos 1 ∷ []) ∷ (pos 2 ∷ neg_ℤ (pos 1) ∷ pos 0 ∷ []) ∷ [])
-    ≡ (pos 2 ∷ neg_ℤ (pos 1) ∷ []) ∷ []
+abbrev its_slack_basis : List Vector
+its_slack_basis =
+    three (pos 0) (pos 1) (pos 2) ∷ three (pos 1) (minus 1) (minus 1) ∷ three (pos 1) (pos 0) (pos 1)
+    ∷ three (pos 2) (minus 1) (pos 0) ∷ []
+
+pub listed : kernel 2 its_slack_basis ≡ (pos 2 ∷ minus 1 ∷ []) ∷ []
 listed = refl
 
 -- ---- members
@@ -48,11 +53,17 @@ wrong_image_is_none element = absurd (cc (element.member.image))
 -- ---- conformal sums
 
 -- (1 2 3) is a sum of the unit elements (1 0 1) and (0 1 1) of the lattice of the row (1 1), each conformally below it
-pub a_conformal_sum : ConformalSum 3 (three (pos 0) (pos 1) (pos 1) ∷ three (pos 1) (pos 0) (pos 1) ∷ []) (three (pos 1) (pos 2) (pos 3))
+abbrev units : List Vector
+units = three (pos 0) (pos 1) (pos 1) ∷ three (pos 1) (pos 0) (pos 1) ∷ []
+
+pub a_conformal_sum : ConformalSum 3 units (three (pos 1) (pos 2) (pos 3))
 a_conformal_sum = (
   record {
     terms = three (pos 1) (pos 0) (pos 1) ∷ three (pos 0) (pos 1) (pos 1) ∷ three (pos 0) (pos 1) (pos 1) ∷ [];
-    signed = ((refl, inl (1, omega arith, refl)), ((refl, inl (0, omega arith, refl)), ((refl, inl (0, omega arith, refl)), tt)));
+    signed = (
+      (refl, inl (1, omega arith, refl)),
+      ((refl, inl (0, omega arith, refl)), ((refl, inl (0, omega arith, refl)), tt)),
+    );
     sum = refl;
   },
   (refl, (refl, (refl, tt))),

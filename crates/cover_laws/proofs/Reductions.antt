@@ -23,7 +23,8 @@ pub record IsFound (basis : List Vector) (z e : Vector) : Type 0 where
 -- what a scan finds is such a vector
 pub found : (basis : List Vector) (z e : Vector) → first_below basis z ≡ Some e → IsFound basis z e
 found [] z e first = absurd (cc)
-found (m ∷ basis) z e first = by (conforms m z) (conforms (opposite m) z) refl refl first (λ k. further (found basis z e k))
+found (m ∷ basis) z e first =
+    by (conforms m z) (conforms (opposite m) z) refl refl first (λ k. further (found basis z e k))
   where
     further : IsFound basis z e → IsFound (m ∷ basis) z e
     further r = record { signed = wider r.signed; below = r.below }
@@ -67,7 +68,8 @@ module _ (n : ℕ) (basis : List Vector) where
   reduced_lightly : (turns : ℕ) (z : Vector) → length z ≡ n → is_zero (reduced_within turns basis z) ≡ true →
       Lightly n basis z
   reduced_lightly zero z size none = zero_lightly z size none
-  reduced_lightly (suc turns) z size none = by (first_below basis z) refl (λ y left k. reduced_lightly turns y left k) none
+  reduced_lightly (suc turns) z size none =
+      by (first_below basis z) refl (λ y left k. reduced_lightly turns y left k) none
     where
       turned : Option Vector → Vector
       turned None = z

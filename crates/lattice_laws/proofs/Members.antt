@@ -1,5 +1,5 @@
--- The members of a list: its head and those of its tail, what every pair of places has, what each member has and passes,
--- and the members of a mapped list and of a filtered one.
+-- The members of a list: its head and those of its tail, what every pair of places has, what each member has and
+-- passes, and the members of a mapped list and of a filtered one.
 use Rattle.std.proofs.Common.{◌≡◌, ℕ, zero, suc, ◌≤◌, Bool, true, false, cond, List, ◌∷◌, get_or, map, refl, ap, arith, ◌∙◌, Contains, ◌⊎◌, inl, inr, subst, sym, []}
 use Rattle.std.specs.List.{AllPairs, AllByRecursion, list_all, filter}
 use Rattle.std.proofs.lemmas.Bool.{cases_order, and_from}
@@ -21,11 +21,16 @@ module _ {X : Type 0} where
   contains_tail x xs z (k, low, e) = (suc k, omega arith, e)
 
   -- of two members one is the other, or one stands before the other
-  pub pair_cases : (R : X → X → Type 0) (xs : List X) (a b : X) → AllPairs R xs → Contains xs a → Contains xs b → (a ≡ b) ⊎ (R a b ⊎ R b a)
+  pub pair_cases : (R : X → X → Type 0) (xs : List X) (a b : X) → AllPairs R xs → Contains xs a → Contains xs b →
+      (a ≡ b) ⊎ (R a b ⊎ R b a)
   pair_cases R xs a b h (i, low, e) (j, lower, f) = elim (cases_order i j) [
     | inl same ↦ inl (sym e ∙ (λ k. get_or xs (same k) a) ∙ sym (get_or_read xs j b lower (sym f) a))
-    | inr (inl before) ↦ inr (inl (subst (λ x. R x b) e (subst (λ y. R (get_or xs i a) y) (sym (get_or_read xs j b lower (sym f) a)) (h i j a before lower))))
-    | inr (inr behind) ↦ inr (inr (subst (λ y. R b y) e (subst (λ x. R x (get_or xs i a)) (sym (get_or_read xs j b lower (sym f) a)) (h j i a behind low))))
+    | inr (inl before) ↦
+        inr (inl (subst (λ x. R x b) e
+        (subst (λ y. R (get_or xs i a) y) (sym (get_or_read xs j b lower (sym f) a)) (h i j a before lower))))
+    | inr (inr behind) ↦
+        inr (inr (subst (λ y. R b y) e
+        (subst (λ x. R x (get_or xs i a)) (sym (get_or_read xs j b lower (sym f) a)) (h j i a behind low))))
   ]
 
 -- ---- what holds of each member

@@ -46,16 +46,21 @@ abbrev pub AreAgreeing : List Vector → Type 0
 AreAgreeing [] = Unit {0}
 AreAgreeing (e ∷ es) = AgreesWithAll e es × AreAgreeing es
 
-pub agree_all : (n : ℕ) (e : Vector) (es : List Vector) → length e ≡ n → AgreesWithAll e es → agree e (sum_of n es) ≡ true
+-- what agrees with each of the vectors agrees with their sum
+pub agree_all : (n : ℕ) (e : Vector) (es : List Vector) → length e ≡ n → AgreesWithAll e es →
+    agree e (sum_of n es) ≡ true
 agree_all n e [] size all = agree_zeros e n size
 agree_all n e (f ∷ es) size all = agree_sum e f (sum_of n es) all.0 (agree_all n e es size all.1)
 
-pub all_below : (u v : Vector) (es : List Vector) → u ⊑ v → AllByRecursion (λ f. f ⊑ u) es → AllByRecursion (λ f. f ⊑ v) es
+-- what is below u is below v
+pub all_below : (u v : Vector) (es : List Vector) → u ⊑ v → AllByRecursion (λ f. f ⊑ u) es →
+    AllByRecursion (λ f. f ⊑ v) es
 all_below u v [] below all = tt
 all_below u v (e ∷ es) below all = (conforms_trans e u v all.0 below, all_below u v es below all.1)
 
 -- vectors that agree are below their sum
-pub agreeing_below : (n : ℕ) (es : List Vector) → AreSized n es → AreAgreeing es → AllByRecursion (λ f. f ⊑ sum_of n es) es
+pub agreeing_below : (n : ℕ) (es : List Vector) → AreSized n es → AreAgreeing es →
+    AllByRecursion (λ f. f ⊑ sum_of n es) es
 agreeing_below n [] sized agreeing = tt
 agreeing_below n (e ∷ es) sized agreeing =
     let sum = sum_of n es in

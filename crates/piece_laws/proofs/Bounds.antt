@@ -22,7 +22,8 @@ all_le_of : (u v : Vector) → AllZip ◌≤ℤ◌ u v → all_zip int_le u v �
 all_le_of [] [] ordered = refl
 all_le_of [] (b ∷ v) ordered = absurd ordered
 all_le_of (a ∷ u) [] ordered = absurd ordered
-all_le_of (a ∷ u) (b ∷ v) ordered = ap (λ t. t && all_zip int_le u v) (int_le_of a b ordered.0) ∙ all_le_of u v ordered.1
+all_le_of (a ∷ u) (b ∷ v) ordered =
+    ap (λ t. t && all_zip int_le u v) (int_le_of a b ordered.0) ∙ all_le_of u v ordered.1
 
 -- what passes the test is within the bounds
 pub is_within_true : (b : Brick) (v : Vector) → is_within b v ≡ true → IsWithin b v
@@ -32,7 +33,8 @@ is_within_true b v passes =
 
 -- what is within the bounds passes the test
 pub is_within_of : (b : Brick) (v : Vector) → IsWithin b v → is_within b v ≡ true
-is_within_of b v inside = ap (λ t. t && all_zip int_le v b.upper) (all_le_of b.lower v inside.0) ∙ all_le_of v b.upper inside.1
+is_within_of b v inside =
+    ap (λ t. t && all_zip int_le v b.upper) (all_le_of b.lower v inside.0) ∙ all_le_of v b.upper inside.1
 
 -- within the bounds stands a vector with an entry for each of them
 pub length-within : (b : Brick) (v : Vector) → IsWithin b v → length v ≡ length b.lower

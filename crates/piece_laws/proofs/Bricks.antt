@@ -1,5 +1,5 @@
--- One brick and a list that is complete for the lattice of the brick matrix: where no step by a signed first part helps at
--- a vector within the bounds, no other vector within the bounds misses the brick's rows by less.
+-- One brick and a list that is complete for the lattice of the brick matrix: where no step by a signed first part helps
+-- at a vector within the bounds, no other vector within the bounds misses the brick's rows by less.
 use Rattle.std.proofs.Common.{◌≡◌, ℕ, zero, suc, ◌<◌, ◌≤◌, true, false, List, length, ap, arith, sym, ◌∙◌, inl, inr}
 use Rattle.lattice_theory.specs.Vectors.{Vector, ◌⊑◌, is_zero, norm1, add, sub}
 use Rattle.lattice_theory.specs.Lattices.{is_complete_for, first_parts}

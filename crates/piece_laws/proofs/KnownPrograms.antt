@@ -1,5 +1,5 @@
--- That the programs worked by hand are programs: two bricks with two columns, bounds 0 and 4 and the row v1 + v2, and one
--- linking row on the first columns.
+-- That the programs worked by hand are programs: two bricks with two columns, bounds 0 and 4 and the row v1 + v2, and
+-- one linking row on the first columns.
 use Rattle.std.specs.Prelude.{◌≡◌, ℕ, zero, suc, ℤ, pos, negsuc, ◌+ℤ◌, ◌≤ℤ◌, [], ◌∷◌, length, refl}
 use Rattle.std.proofs.Common.{arith}
 use Rattle.std.proofs.lemmas.Int.{ints}

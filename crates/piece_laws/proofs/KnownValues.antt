@@ -1,5 +1,5 @@
--- Pieces and parts of ways at values worked by hand: two bricks with two columns, and a linking row on the first columns.
--- From (0 4), (3 1) to (1 3), (2 2) the first brick goes up by (1 -1) and the second down by it.
+-- Pieces and parts of ways at values worked by hand: two bricks with two columns, and a linking row on the first
+-- columns. From (0 4), (3 1) to (1 3), (2 2) the first brick goes up by (1 -1) and the second down by it.
 use Rattle.std.specs.Prelude.{◌≡◌, ℤ, pos, true, false, List, [], ◌∷◌, refl}
 use Rattle.std.proofs.Common.{arith}
 use Rattle.std.proofs.lemmas.Int.{ints}
@@ -29,7 +29,11 @@ pub its_image : image the_program (way the_start best_point) ≡ pos 0 ∷ []
 its_image = refl
 
 -- the first brick alone is a part of each brick of the way, and changes the linking row by 1, which is no part of 0
-pub half_a_way_is_no_part : conforms (image the_program (one_up ∷ (pos 0 ∷ pos 0 ∷ []) ∷ [])) (image the_program (way the_start best_point)) ≡ false
+abbrev half_a_way : Bricks
+half_a_way = one_up ∷ (pos 0 ∷ pos 0 ∷ []) ∷ []
+
+pub half_a_way_is_no_part :
+    conforms (image the_program half_a_way) (image the_program (way the_start best_point)) ≡ false
 half_a_way_is_no_part = refl
 
 -- the whole way is a part of itself

@@ -26,7 +26,8 @@ pub record Frame (p : Program) (phase : Phase) (gens zs : List Vector) (bound : 
   pub sized : AreSized p.brick.cols gens
   pub nonzero : AllByRecursion (λ g. 0 < norm1 g) gens
   pub still : IsStill p gens
-  pub writes : (d : Vector) → length d ≡ p.brick.cols → product p.brick d ≡ zeros (length p.brick.rows) → Written p.brick.cols gens d
+  pub writes : (d : Vector) → length d ≡ p.brick.cols → product p.brick d ≡ zeros (length p.brick.rows) →
+      Written p.brick.cols gens d
   pub light : (w : Vector) → length w ≡ length gens → 0 < norm1 w →
       IsTight phase p.relations (product (link_matrix p.link gens) w) →
       LightPart bound (λ q. product (link_matrix p.link gens) q ⊑ product (link_matrix p.link gens) w) w
@@ -159,7 +160,8 @@ module _ (p : Program) (phase : Phase) (gens zs : List Vector) (bound : ℕ) (fr
       let piece =
       piece_counts n bound (λ q. product links q ⊑ product links whole) w.counts frame.some zero_has sizes
       (counts_some w.counts ds w.each some)
-      (λ more. frame.light whole (length-sum n w.counts sizes) more (subst (IsTight phase p.relations) (sym image) tight)) in
+      (λ more.
+      frame.light whole (length-sum n w.counts sizes) more (subst (IsTight phase p.relations) (sym image) tight)) in
       let shares = piece.counts_of.shares in
       let parts = shares.parts in
       let small : AreSized n parts = parts-sized n parts w.counts shares.below sizes in

@@ -13,8 +13,8 @@ use Rattle.piece_laws.specs.Points.{forth, image}
 abbrev pub IsStill : Program → Bricks → Type 0
 IsStill p h = AllByRecursion (λ v. product p.brick v ≡ zeros (length p.brick.rows)) h
 
--- a piece of a way: a move that is not 0, of listed vectors and listed first sums, which is below the way in each brick,
--- changes no brick row, and changes the linking rows by a part of what the way does
+-- a piece of a way: a move that is not 0, of listed vectors and listed first sums, which is below the way in each
+-- brick, changes no brick row, and changes the linking rows by a part of what the way does
 pub record Piece (p : Program) (zs : List Vector) (ds : Bricks) : Type 0 where
   pub move : Bricks
   pub nonzero : 0 < weight move

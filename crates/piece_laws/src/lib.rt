@@ -45,6 +45,7 @@ pub fn a_way_has_a_piece()
 pub fn a_point_that_no_unit_step_betters_is_best()
     ensures { (p : Program) (phase : Phase) (b : Bases) (sums : List Sum) → IsProgram p → AreBases p b →
         AreBrickSums p phase b sums → (x : Bricks) → IsStart p phase x →
-        ((h : Bricks) → IsUnitStep p phase (vectors sums) x h → phase_cost p phase x ≤ℤ phase_cost p phase (forth x h)) →
+        ((h : Bricks) → IsUnitStep p phase (vectors sums) x h →
+        phase_cost p phase x ≤ℤ phase_cost p phase (forth x h)) →
         (y : Bricks) → IsStart p phase y → phase_cost p phase x ≤ℤ phase_cost p phase y }
 {}

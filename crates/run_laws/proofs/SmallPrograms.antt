@@ -1,7 +1,7 @@
 -- The laws at two programs worked by hand. The first has one brick with one column, bounds 0 and 1, cost (v - 1)^2, no
 -- brick row, and the linking row v <= 1: its slack bases, its brick sums, its run, which is one step from 0 to 1 that
--- changes what the linking row rests, and its outcome, which is that 0 is the least cost. The brick of the second has no
--- column, and a row that is to be 1.
+-- changes what the linking row rests, and its outcome, which is that 0 is the least cost. The brick of the second has
+-- no column, and a row that is to be 1.
 use Rattle.std.specs.Prelude.{◌≡◌, ℕ, zero, suc, ◌≤◌, ◌^◌, ℤ, pos, negsuc, ◌+ℤ◌, ◌-ℤ◌, ◌*ℤ◌, ◌≤ℤ◌, unsigned_abs, List, [], ◌∷◌, length, Some, None, Contains, IsTrue, refl, true, false}
 use Rattle.std.proofs.Common.{arith, sym, ◌∙◌, ◌⊎◌, inl, inr, subst}
 use Rattle.std.proofs.lemmas.Int.{ints}

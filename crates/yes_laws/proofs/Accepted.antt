@@ -140,8 +140,8 @@ module _ (p : Program) (phase : Phase) (c : Certificate) (f : FoldPart) (program
   shown_least y start =
       least p phase (vectors (listed_sums f)) c.point.rows program (start_of p phase c.point.rows program rules.point)
       held (listed_generators p c) f.bound
-      (frame_of_lists p phase c.bricks.rows f.links.rows (vectors (listed_sums f)) f.bound (lists_of p phase c f rules)) y
-      start
+      (frame_of_lists p phase c.bricks.rows f.links.rows (vectors (listed_sums f)) f.bound (lists_of p phase c f rules))
+      y start
 
 -- of the least cost
 optimum : (p : Program) (c : Certificate) (f : FoldPart) → IsProgram p → Rules p Closed c f →
@@ -181,7 +181,8 @@ link_miss_holds p c f program rules = (
     no_less : (y : Bricks) → AreWithin p.bricks y → MeetsBrickRows p y →
         link_miss p (link_rests p x) ≤ link_miss p (link_rests p y)
     no_less y within meets =
-        let low = shown_least p Counted c f program rules y (record { within = within; brick_rows = meets; end = tt }) in
+        let other : IsStart p Counted y = record { within = within; brick_rows = meets; end = tt } in
+        let low = shown_least p Counted c f program rules y other in
         omega (arith, ints, low)
 
 -- the certificate with this claim and these parts about the linking rows

@@ -100,7 +100,8 @@ yes_holds p c i program h = shown (nat_eq i 0) refl (slice_get p.bricks (i - 1))
     shown true none o there rows nothing = absurd (cc)
     shown false some None there rows nothing = absurd (cc)
     shown false some (Some b) there [] nothing = absurd (cc)
-    shown false some (Some b) there (x ∷ rest) nothing = miss_holds p c i (i - 1) b x program (behind i some) there nothing
+    shown false some (Some b) there (x ∷ rest) nothing =
+        miss_holds p c i (i - 1) b x program (behind i some) there nothing
 
 -- what a certificate claims of a brick holds where it breaks no rule
 pub accepted_holds : (p : Program) (c : Certificate) (i : ℕ) →

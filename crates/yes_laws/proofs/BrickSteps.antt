@@ -17,7 +17,8 @@ is_no_help p b x y = not (is_within b y) || nat_le (brick_residual p b x) (brick
 
 -- what passes the test does not help
 no_help : (p : Program) (b : Brick) (x y : Vector) → is_no_help p b x y ≡ true → IsNoHelp p b x y
-no_help p b x y passes inside = by (is_within b y) (is_within_of b y inside) (brick_residual p b x) (brick_residual p b y) passes
+no_help p b x y passes inside =
+    by (is_within b y) (is_within_of b y inside) (brick_residual p b x) (brick_residual p b y) passes
   where
     le_true : (m n : ℕ) → nat_le m n ≡ true → m ≤ n
     le_true m n passes = grind (arith, nat_tests)

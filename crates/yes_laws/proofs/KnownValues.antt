@@ -101,7 +101,10 @@ pub at_most_accepted : Accept at_most_program (at_most_certificate at_most_ends)
 at_most_accepted = refl
 
 -- were the row an equation, a walk could end at 5 alone
-pub equation_ends_refused : first_broken at_most_program (at_most_certificate (None ∷ None ∷ Some (pos 0) ∷ None ∷ None ∷ [])) ≡ Some C6
+abbrev equation_ends : List (Option ℤ)
+equation_ends = None ∷ None ∷ Some (pos 0) ∷ None ∷ None ∷ []
+
+pub equation_ends_refused : first_broken at_most_program (at_most_certificate equation_ends) ≡ Some C6
 equation_ends_refused = refl
 
 -- all premises of the law are met, and it says that no point costs less than 5 at which the second columns add up to

@@ -90,7 +90,8 @@ module _ (t : ℕ) (gens : List Vector) (bound : ℕ) (sums : List Sum)
           let v = a.member.vector in
           let level = suc a.member.level in
           let both =
-          and_true (is_sum_within sums level (add v g)) (is_sum_within sums level (sub v g)) (tested g c n before a low) in
+          and_true (is_sum_within sums level (add v g)) (is_sum_within sums level (sub v g))
+          (tested g c n before a low) in
           elim sign [
             | inl plus ↦
                 higher a.member n (add v g) w a.low (ap (λ u. add u g) a.is ∙ sym plus)

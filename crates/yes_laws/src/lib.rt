@@ -30,7 +30,8 @@ pub fn a_yes_on_a_brick_holds()
         IsProgram p → c.claim ≡ claim.InfeasibleBrick i → Accept p c → Holds p (claimed_verdict p c) }
 {}
 
-/// Law: where listed potentials hold layer by layer, that of a sum is at most the cost of each walk of length 1 from it.
+/// Law: where listed potentials hold layer by layer, that of a sum is at most the cost of each walk of length 1 from
+/// it.
 pub fn a_listed_potential_bounds_each_walk()
     ensures { (p : Program) (phase : Phase) (zs : List Vector) (rests : Vector) (bricks : List Brick) (x : Bricks)
         (row : List (Option ℤ)) (rows : List (List (Option ℤ))) (w : Vector) (here : Option ℤ) (h : Bricks) (c : ℤ) →
