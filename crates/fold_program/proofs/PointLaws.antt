@@ -22,7 +22,7 @@ bounded_rows (suc n) cols entries h =
     (bounded_rows n cols (drop cols entries) (All-drop (λ a. IsTrue (is_bounded a)) cols entries h))
 
 -- there are as many rows as were asked for
-length-rows_of : (n cols : ℕ) (entries : Vector) → length (rows_of n cols entries) ≡ n
+pub length-rows_of : (n cols : ℕ) (entries : Vector) → length (rows_of n cols entries) ≡ n
 length-rows_of zero cols entries = refl
 length-rows_of (suc n) cols entries = ap suc (length-rows_of n cols (drop cols entries))
 

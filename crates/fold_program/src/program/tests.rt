@@ -191,27 +191,40 @@ fn the_first_thing_that_a_point_breaks_is_named(rt: HostRuntime) -> Result<(), F
     Ok(())
 }
 
-/// The sum of the linking row is 2 there, and its right side is 3.
+/// What the linking row misses by this relation, where its right side is 2 below its sum, equal to it, and 3 above it.
+fn misses(alloc: Global, relation: Relation) -> Result<[u128; 3], Fail> {
+    let program = related(alloc, relation)?;
+    if program.relations().len() != 1 || program.relation(1) != relation {
+        return Err("one linking row with this relation")?;
+    }
+    Ok([
+        program.missed(1, -2),
+        program.missed(1, 0),
+        program.missed(1, 3),
+    ])
+}
+
+#[test]
+fn a_linking_row_misses_by_its_relation(rt: HostRuntime) -> Result<(), Fail> {
+    assert_eq!(rt; misses(rt.alloc(), Relation::Equal)?, [2, 0, 3]);
+    assert_eq!(rt; misses(rt.alloc(), Relation::Less)?, [2, 0, 0]);
+    assert_eq!(rt; misses(rt.alloc(), Relation::Greater)?, [0, 0, 3]);
+    Ok(())
+}
+
+/// What a point breaks at which the sum of the linking row is 2, and its right side 3; and what it misses of that row.
+fn judged(alloc: Global, relation: Relation) -> Result<(Option<Broken>, u128), Fail> {
+    let program = related(alloc, relation)?;
+    let point = point(&program, [0, 4, 2, 2].to_vec(alloc)?).ok_or("a point")?;
+    Ok((program.broken(&point), program.link_residual(&point)))
+}
+
 #[test]
 fn a_linking_row_is_judged_by_its_relation(rt: HostRuntime) -> Result<(), Fail> {
     let broken = Some(Broken::LinkRow { row: 1 });
-    for (relation, misses, missed, broken) in [
-        (Relation::Equal, [2, 0, 3], 1, broken),
-        (Relation::Less, [2, 0, 0], 0, None),
-        (Relation::Greater, [0, 0, 3], 1, broken),
-    ] {
-        let program = related(rt.alloc(), relation)?;
-        assert_eq!(rt; program.r(), 1);
-        assert_eq!(rt; program.relation(1), relation);
-        assert_eq!(rt; program.relations(), [relation].as_slice());
-        for (at, rest) in [-2, 0, 3].into_iter().enumerate() {
-            assert_eq!(rt; program.missed(1, rest), misses[at]);
-        }
-        let point = point(&program, [0, 4, 2, 2].to_vec(rt.alloc())?).expect(&rt, "a point");
-        assert_eq!(rt; program.rest(&point, 1), 1);
-        assert_eq!(rt; program.link_residual(&point), missed);
-        assert_eq!(rt; program.broken(&point), broken);
-    }
+    assert_eq!(rt; judged(rt.alloc(), Relation::Equal)?, (broken, 1));
+    assert_eq!(rt; judged(rt.alloc(), Relation::Less)?, (None, 0));
+    assert_eq!(rt; judged(rt.alloc(), Relation::Greater)?, (broken, 1));
     Ok(())
 }
 
@@ -220,15 +233,11 @@ fn each_column_has_a_cost_within_its_bounds(rt: HostRuntime) -> Result<(), Fail>
     let program = program(rt.alloc())?;
     assert_eq!(rt; program.n(), 2);
     assert_eq!(rt; program.t(), 2);
-    for (brick, col, v, cost) in [
-        (1, 1, 3, Some(9)),
-        (1, 2, 3, Some(0)),
-        (2, 1, 4, Some(16)),
-        (2, 1, 5, None),
-        (1, 2, -1, None),
-    ] {
-        assert_eq!(rt; cost_within(&program, brick, col, v), cost);
-    }
+    assert_eq!(rt; cost_within(&program, 1, 1, 3), Some(9));
+    assert_eq!(rt; cost_within(&program, 1, 2, 3), Some(0));
+    assert_eq!(rt; cost_within(&program, 2, 1, 4), Some(16));
+    assert_eq!(rt; cost_within(&program, 2, 1, 5), None);
+    assert_eq!(rt; cost_within(&program, 1, 2, -1), None);
     Ok(())
 }
 
