@@ -2,3 +2,4 @@ mod KnownValues
 mod DrawLaws
 mod TransportLaws
 mod PlantedLaws
+mod AcceptedLaws

@@ -81,3 +81,10 @@ program_made cs right is =
     let one : take (3 + length cs) right ++ [] ≡ sent cs ++ map (λ (c : Customer). pos c.demand) cs =
     append-nil (take (3 + length cs) right) ∙ take_all (3 + length cs) right size ∙ is in
     rw one (ap (λ (bs : List Brick). record (transport_of cs) { bricks = bs }) (bricks_made cs))
+
+pub length-costs : (cs : List Customer) → length (flat_map (λ c. (brick_of c).costs) cs) ≡ length cs * 3
+length-costs [] = omega arith
+length-costs (c ∷ cs) =
+    let rest = length-costs cs in
+    let all : length (flat_map (λ (e : Customer). (brick_of e).costs) (c ∷ cs)) ≡ 3 + length (flat_map (λ (e : Customer). (brick_of e).costs) cs) = omega arith in
+    omega (arith, all, rest)

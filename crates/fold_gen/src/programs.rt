@@ -1,17 +1,18 @@
 //! The transport programs.
 
-ghost use Rattle.std.specs.Prelude.{◌≡◌, ◌<◌, ◌≤◌, ◌^◌, pos, length, map, flat_map, All, IfOk, IsTrue, [], ◌∷◌, ◌++◌};
+ghost use Rattle.std.specs.Prelude.{◌≡◌, ◌<◌, ◌≤◌, ◌^◌, None, pos, length, map, flat_map, All, IfOk, IsTrue, [], ◌∷◌, ◌++◌};
 ghost use Rattle.lattice_theory.specs.Vectors.{is_bounded};
 ghost use Rattle.lattice_theory.specs.BasisLimits.{IsNarrow};
 ghost use Rattle.fold_theory.specs.Programs.{Bricks, IsFeasible};
 ghost use Rattle.convex_costs.specs.Bounds.{AreBounded};
 ghost use Rattle.fold_program.specs.Parts.{program_of};
 ghost use Rattle.fold_program.specs.Faults.{parts_value, AreWithinLimits, IsBoundedRow};
+ghost use Rattle.fold_program.specs.Refusals.{first_misshaped};
 ghost use Rattle.fold_gen.specs.Transports as transports;
 ghost use Rattle.fold_gen.specs.Transports.{brick_of, cost_of, transport_of};
 
 use crate::customers::{Customer, Price, customers};
-use fold_program::{Cost, Parts, Program};
+use fold_program::{Cost, Parts, Program, ProgramFault};
 use mat_files::Matrix;
 use std::alloc::{AllocError, Global};
 
@@ -31,16 +32,21 @@ pub fn transport(alloc: Global, number: u32, bricks: u32) -> Result<Program, All
 {
     let customers = customers(alloc, number, bricks)?;
     let parts = parts(alloc, &customers)?;
-    // the parts fit each other, their costs are convex and small: no fault but want of memory is left
     match Program::new(alloc, parts) {
         Ok(program) => Ok(program),
-        Err(_) => Err(AllocError),
+        Err(fault) => {
+            // the parts fit each other, no bounds cross, and the costs are convex and small
+            prove!(matches!(fault, ProgramFault::Memory));
+            Err(AllocError)
+        }
     }
 }
 
 /// The parts of the program with these customers.
 fn parts(alloc: Global, customers: &[Customer]) -> Result<Parts, AllocError>
+    requires some { 1 ≤ length customers.now }
     requires few { length customers.now ≤ 10000 }
+    ensures shaped { IfOk result (λ p. first_misshaped (parts_value p) ≡ None) }
     ensures limits { IfOk result (λ p. AreWithinLimits (parts_value p)) }
     ensures program { IfOk result (λ p. program_of (parts_value p) ≡ transport_of customers.now) }
 {

@@ -2,9 +2,10 @@ use Rattle.std.proofs.Common.{◌≡◌, ◌∙◌, ◌*◌, ◌+◌, sym, ap, s
 use Rattle.std.proofs.lemmas.List.Elements.{All-replicate}
 use Rattle.lattice_theory.specs.Vectors.{Vector, is_bounded}
 use Rattle.lattice_theory.specs.Matrices.{Matrix}
-use Rattle.fold_program.specs.Faults.{IsBoundedRow}
-use Rattle.fold_program.proofs.PointLaws.{bounded_rows}
-use Rattle.fold_gen.proofs.TransportLaws.{length-uppers, program_made}
+use Rattle.fold_program.specs.Faults.{parts_value, IsBoundedRow}
+use Rattle.fold_program.proofs.PointLaws.{bounded_rows, length-rows_of}
+use Rattle.fold_gen.proofs.TransportLaws.{length-uppers, length-costs, program_made}
+use Rattle.fold_gen.proofs.AcceptedLaws.{well_shaped}
 use Rattle.fold_gen.proofs.programs.parts.Goals as goal
 
 pub new-requires-2 : goal.new-requires-2
@@ -30,3 +31,13 @@ returns-clause-program c =
     let zeros : c.in_ok-lower.lower.items ≡ replicate (3 * n) (pos 0) = c.in_ok-lower.ensures.items_if_clones_equal (λ y e. e) in
     rw (c.in_ok-link.ensures.links, c.in_ok-brick.ensures.shares, c.new.ensures, c.new-2.ensures, c.new-3.ensures, zeros, c.in_ok-upper.ensures.uppers, c.in_ok-costs.ensures.costs)
     (program_made c.args.customers.now c.in_ok-right.right.items c.in_ok-right.ensures.rights)
+
+pub returns-clause-shaped : goal.returns-clause-shaped
+returns-clause-shaped c =
+    let n = length c.args.customers.now in
+    well_shaped (parts_value (record { link = c.in_ok-link.link; brick = c.in_ok-brick.brick; lower = c.new.result; upper = c.new-2.result; right = c.new-3.result; costs = c.in_ok-costs.costs })) n
+    c.requires.some c.requires.few c.in_ok-link.ensures.links c.in_ok-brick.ensures.shares
+    (ap (λ (m : Matrix). length m.rows) c.new.ensures ∙ length-rows_of n 3 c.in_ok-lower.lower.items) (ap (λ (m : Matrix). m.cols) c.new.ensures)
+    (ap (λ (m : Matrix). length m.rows) c.new-2.ensures ∙ length-rows_of n 3 c.in_ok-upper.upper.items) (ap (λ (m : Matrix). m.cols) c.new-2.ensures)
+    (ap (λ (m : Matrix). length m.rows) c.new-3.ensures) (ap (λ (m : Matrix). m.cols) c.new-3.ensures)
+    (ap length c.in_ok-costs.ensures.costs ∙ length-costs c.args.customers.now)
