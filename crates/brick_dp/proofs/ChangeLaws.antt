@@ -61,11 +61,19 @@ closed_change p i k v d end lower upper after_cost before_cost lowers uppers bet
   b,
   lowers.1,
   (
-    (subst (λ l. AllZip ◌≤ℤ◌ l (after k v d)) lowers.2 between.0,
-        subst (λ u. AllZip ◌≤ℤ◌ (after k v d) u) (uppers.2 ∙ ap (λ (c : Brick). c.upper) (same_brick _ uppers.0 b uppers.1 lowers.1)) between.1),
+    (
+      subst (λ l. AllZip ◌≤ℤ◌ l (after k v d)) lowers.2 between.0,
+      subst (λ u. AllZip ◌≤ℤ◌ (after k v d) u) (uppers.2 ∙ ap (λ (c : Brick). c.upper) (same_brick _ uppers.0 b uppers.1 lowers.1)) between.1,
+    ),
     λ k. after_here k -ℤ before_here k,
-    omega (arith, ints, ap brick_magnitude (same_brick _ after_low.0 b after_low.1 lowers.1), after_low.2,
-        ap brick_magnitude (same_brick _ before_low.0 b before_low.1 lowers.1), before_low.2),
+    omega (
+      arith,
+      ints,
+      ap brick_magnitude (same_brick _ after_low.0 b after_low.1 lowers.1),
+      after_low.2,
+      ap brick_magnitude (same_brick _ before_low.0 b before_low.1 lowers.1),
+      before_low.2,
+    ),
   ),
 )
   where

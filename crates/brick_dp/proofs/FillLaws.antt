@@ -125,9 +125,9 @@ module _ (f : FoldValue) (x : Bricks) (k : ℕ) (same : length x ≡ length f.pr
         );
     small =
         let split : sum_by brick_magnitude (drop i f.program.bricks) ≡ brick_magnitude b + sum_by brick_magnitude (drop (i + 1) f.program.bricks) =
-            ap (sum_by brick_magnitude) (drop_here f.program.bricks i b brick) ∙ sum_by-cons brick_magnitude b (drop (i + 1) f.program.bricks) in
-            AreAtMost-more (2 * brick_magnitude b + most_from f.program (i + 1)) (most_from f.program i) layer (omega (arith, split))
-            (over_small zs menu next layer (2 * brick_magnitude b) (most_from f.program (i + 1)) over is.small below.small);
+        ap (sum_by brick_magnitude) (drop_here f.program.bricks i b brick) ∙ sum_by-cons brick_magnitude b (drop (i + 1) f.program.bricks) in
+        AreAtMost-more (2 * brick_magnitude b + most_from f.program (i + 1)) (most_from f.program i) layer (omega (arith, split))
+        (over_small zs menu next layer (2 * brick_magnitude b) (most_from f.program (i + 1)) over is.small below.small);
   }
 
   pub layers_one : (layer : Layer) (layers : List Layer) → layers ≡ layer ∷ [] → IsLastLayer f k (link_rests f.program x) layer → AreLayers f x k 1 layers

@@ -1,8 +1,9 @@
 -- The menu of a brick, one listed sum after the other, and those of all bricks.
-use Rattle.std.proofs.Common.{◌≡◌, ℕ, zero, suc, ◌+◌, ◌-◌, ◌*◌, ◌<◌, ◌≤◌, ℤ, pos, unsigned_abs, List, [], ◌∷◌, ◌++◌, length, refl, ap, arith, sym, ◌∙◌, Some, None, Option, slice_get, subst, All, ◌⊎◌, inl, inr, get_or}
-use Rattle.std.proofs.lemmas.List.{length-append, length-map}
+use Rattle.std.proofs.Common.{◌≡◌, ◌≢◌, ℕ, zero, suc, ◌+◌, ◌-◌, ◌*◌, ◌<◌, ◌≤◌, ℤ, pos, Bool, true, false, not, unsigned_abs, List, [], ◌∷◌, ◌++◌, length, refl, ap, arith, sym, ◌∙◌, Some, None, Option, slice_get, subst, All, ◌⊎◌, inl, inr, get_or}
+use Rattle.std.proofs.lemmas.List.{length-append, length-map, length-set}
+use Rattle.std.proofs.Math.ListN.{set}
 use Rattle.std.proofs.lemmas.Option.{slice_get_within, get_or_from_slice_get, slice_get-get_or}
-use Rattle.std.proofs.lemmas.Bool.{cases_lt}
+use Rattle.std.proofs.lemmas.Bool.{cases_lt, cases_order}
 use Rattle.std.specs.Prelude.{Vec}
 use Rattle.std.specs.declared.alloc.Global.{Global}
 use Rattle.lattice_theory.specs.Vectors.{Vector}
@@ -13,6 +14,7 @@ use Rattle.run_theory.specs.Folds.{FoldValue}
 use Rattle.run_theory.specs.Walks.{brick_change}
 use Rattle.sieve_laws.specs.declared.PricedMove.{PricedMove}
 use Rattle.sieve_laws.specs.Sieve.{Menu, IsMenu, after}
+use Rattle.sieve_laws.proofs.Cells.{slice_get-set_same, slice_get-set_other}
 use Rattle.brick_dp.specs.Changes.{ForBrick, IsChange}
 use Rattle.brick_dp.specs.Menus.{IsBrickMenu, AreMenus, menus_of}
 use Rattle.brick_dp.proofs.ChangeLaws.{at_same, slice_get-push}
@@ -200,3 +202,76 @@ menu_short f k b v menu is = by (length menu) refl
         let high = above n (get_or menu n none) there in
         let low = is.low n none (omega (arith, size)) in
         omega (arith, size, high, low)
+
+-- ---- from the menus at one point to those at another
+
+-- the first n menus are those at the second point, the others at the first
+pub record AreFollowing (f : FoldValue) (x y : Bricks) (k : ℕ) (menus : List Kept) (n : ℕ) : Type 0 where
+  pub size : length menus ≡ length f.program.bricks
+  pub done : (i : ℕ) (b : Brick) (v : Vector) (menu : Kept) → i < n → slice_get f.program.bricks i ≡ Some b → slice_get y i ≡ Some v →
+      slice_get menus i ≡ Some menu → IsBrickMenu f k b v menu.items
+  pub rest : (i : ℕ) (b : Brick) (v : Vector) (menu : Kept) → n ≤ i → slice_get f.program.bricks i ≡ Some b → slice_get x i ≡ Some v →
+      slice_get menus i ≡ Some menu → IsBrickMenu f k b v menu.items
+
+pub following_none : (f : FoldValue) (x y : Bricks) (k : ℕ) (menus : List Kept) → AreMenus f x k (menus_of menus) → AreFollowing f x y k menus 0
+following_none f x y k menus are = record {
+  size = sym (length-menus_of menus) ∙ are.size;
+  done = λ i b v menu low. absurd (omega (arith, low));
+  rest = λ i b v menu low brick at there. are.each i b v menu.items brick at (menu_at menus i menu there);
+}
+
+-- a brick whose vector is the same keeps its menu
+pub following_same : (f : FoldValue) (x y : Bricks) (k : ℕ) (menus : List Kept) (n : ℕ) (v : Vector) → slice_get x n ≡ Some v → slice_get y n ≡ Some v →
+    AreFollowing f x y k menus n → AreFollowing f x y k menus (n + 1)
+following_same f x y k menus n v here also so_far = record {
+  size = so_far.size;
+  done = λ i b u menu low brick at there. by i b u menu low brick at there (cases_lt i n);
+  rest = λ i b u menu low. so_far.rest i b u menu (omega (arith, low));
+}
+  where
+    by : (i : ℕ) (b : Brick) (u : Vector) (menu : Kept) → i < n + 1 → slice_get f.program.bricks i ≡ Some b → slice_get y i ≡ Some u →
+        slice_get menus i ≡ Some menu → (i < n) ⊎ (n ≤ i) → IsBrickMenu f k b u menu.items
+    by i b u menu low brick at there (inl before) = so_far.done i b u menu before brick at there
+    by i b u menu low brick at there (inr high) =
+        let last : i ≡ n = omega (arith, low, high) in
+        let same : v ≡ u = at_same (slice_get y n) v u also (ap (slice_get y) (sym last) ∙ at) in
+        so_far.rest i b u menu high brick (ap (slice_get x) last ∙ here ∙ ap Some same) there
+
+-- another brick gets a new one
+pub following_new : (f : FoldValue) (x y : Bricks) (k : ℕ) (menus more : List Kept) (n : ℕ) (v : Vector) (menu : Kept) → slice_get y n ≡ Some v →
+    ((b : Brick) → slice_get f.program.bricks n ≡ Some b → IsBrickMenu f k b v menu.items) → more ≡ set menus n menu → n < length menus →
+    AreFollowing f x y k menus n → AreFollowing f x y k more (n + 1)
+following_new f x y k menus more n v menu here is_menu is low so_far = record {
+  size = ap length is ∙ length-set menus n menu ∙ so_far.size;
+  done = λ i b u other under brick at there. by i b u other under brick at there (cases_order i n);
+  rest = λ i b u other under brick at there. so_far.rest i b u other (omega (arith, under)) brick at (others i other (λ e. omega (arith, under, e)) there);
+}
+  where
+    others : (i : ℕ) (other : Kept) → i ≢ n → slice_get more i ≡ Some other → slice_get menus i ≡ Some other
+    others i other apart there = sym (slice_get-set_other menus n i menu apart) ∙ ap (λ ms. slice_get ms i) (sym is) ∙ there
+
+    by : (i : ℕ) (b : Brick) (u : Vector) (other : Kept) → i < n + 1 → slice_get f.program.bricks i ≡ Some b → slice_get y i ≡ Some u →
+        slice_get more i ≡ Some other → (i ≡ n) ⊎ ((i < n) ⊎ (n < i)) → IsBrickMenu f k b u other.items
+    by i b u other under brick at there (inl same) =
+        let vectors_same : v ≡ u = at_same (slice_get y n) v u here (ap (slice_get y) (sym same) ∙ at) in
+        let menus_same : menu ≡ other = at_same (slice_get more n) menu other (ap (λ ms. slice_get ms n) is ∙ slice_get-set_same menus n menu low) (ap (slice_get more) (sym same) ∙ there) in
+        subst (λ (m : Kept). IsBrickMenu f k b u m.items) menus_same (
+        subst (λ w. IsBrickMenu f k b w menu.items) vectors_same (is_menu b (ap (slice_get f.program.bricks) (sym same) ∙ brick))
+        )
+    by i b u other under brick at there (inr (inl before)) =
+        so_far.done i b u other before brick at (others i other (λ e. omega (arith, before, e)) there)
+    by i b u other under brick at there (inr (inr behind)) = absurd (omega (arith, under, behind))
+
+pub following_all : (f : FoldValue) (x y : Bricks) (k : ℕ) (menus : List Kept) (n : ℕ) → length f.program.bricks ≤ n → AreFollowing f x y k menus n →
+    AreMenus f y k (menus_of menus)
+following_all f x y k menus n all so_far = record {
+  size = length-menus_of menus ∙ so_far.size;
+  each = λ i b v menu brick at there.
+      let kept = kept_at menus i menu there in
+      let low = slice_get_within f.program.bricks i b brick in
+      subst (λ m. IsBrickMenu f k b v m) kept.2 (so_far.done i b v kept.0 (omega (arith, low, all)) brick at kept.1);
+}
+
+pub not_false : (b : Bool) → false ≡ not b → b ≡ true
+not_false true e = refl
+not_false false e = absurd (cc)

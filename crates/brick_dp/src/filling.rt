@@ -43,7 +43,16 @@ pub(crate) fn layers(
     let mut tops = vec![in alloc; None; fold.sums().len() as usize]?;
     for done in 0..bricks {
         let menu = menus.of(bricks - done);
-        add_layer(alloc, targets, menu, &mut layers, done, &mut layer, &mut tops, moves)?;
+        add_layer(
+            alloc,
+            targets,
+            menu,
+            &mut layers,
+            done,
+            &mut layer,
+            &mut tops,
+            moves,
+        )?;
     }
     Ok(layers)
 }

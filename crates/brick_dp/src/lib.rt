@@ -20,13 +20,13 @@ mod reading;
 mod tables;
 
 pub use answers::{Step, StepAnswer};
-pub use best::best_step;
+pub use best::{best_step, best_step_with};
 pub use bounds::{Bound, NoBound};
 pub use fold_program::{Phase, Point, Program};
 pub use folds::Fold;
+pub use layer_sieve::{Moves, PricedMove, Targets};
 pub use least_costs::potentials;
 pub use menus::Menus;
-pub use layer_sieve::{Moves, PricedMove, Targets};
 pub use step_lengths::Key;
 pub use tables::Potentials;
 

@@ -1,6 +1,6 @@
 //! The moves of each brick within its bounds, with what they change the cost by.
 
-ghost use Rattle.std.specs.Prelude.{◌≡◌, ◌-◌, ◌<◌, ◌≤◌, length, Some, IfOk, slice_get};
+ghost use Rattle.std.specs.Prelude.{◌≡◌, ◌-◌, ◌<◌, ◌≤◌, length, Some, IfOk, OnOk, slice_get};
 ghost use Rattle.fold_theory.specs.Programs.{IsWithin, AreWithin};
 ghost use Rattle.brick_dp.specs.Changes.{ForBrick};
 ghost use Rattle.brick_dp.specs.Menus.{IsBrickMenu, AreMenus};
@@ -41,6 +41,31 @@ impl Menus {
             menus.push(menu(alloc, fold, done + 1, point.brick(done + 1), k)?)?;
         }
         Ok(Menus { menus })
+    }
+
+    /// From the menus at a point to those at another one: only bricks whose vector is another get a new menu. An error
+    /// comes only where memory runs out; it leaves menus of either point.
+    pub fn follow(
+        &mut self,
+        alloc: Global,
+        fold: &Fold,
+        before: &Point,
+        after: &Point,
+        k: u32,
+    ) -> Result<(), AllocError>
+        requires menus { AreMenus fold.now before.now k self.old }
+        requires before { AreWithin fold.now.program.bricks before.now }
+        requires within { AreWithin fold.now.program.bricks after.now }
+        requires short { k < 64 }
+        ensures { OnOk result (AreMenus fold.now after.now k self.new) }
+    {
+        for done in 0..fold.program().n() {
+            let at = after.brick(done + 1);
+            if before.brick(done + 1) != at {
+                self.menus[done as usize] = menu(alloc, fold, done + 1, at, k)?;
+            }
+        }
+        Ok(())
     }
 
     /// The menu of one brick; bricks are numbered from 1.

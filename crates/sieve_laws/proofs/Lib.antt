@@ -2,3 +2,4 @@ pub mod Cells
 pub mod Lowering
 pub mod Tops
 pub mod Rows
+mod KnownValues

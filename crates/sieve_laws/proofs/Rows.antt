@@ -269,16 +269,16 @@ no_change Closed b v = omega (arith, ints)
 no_change Counted b v = refl
 
 -- where zero is listed, each sum may be left as it is
-pub may_stay : (phase : Phase) (zs : List Vector) (k t : ℕ) (b : Brick) (v : Vector) (menu : Menu) (next : Layer) (zero : ℕ) →
-    IsMenu phase zs k b v menu → slice_get zs zero ≡ Some (zeros t) → All (λ z. length z ≡ t) zs → length v ≡ t → IsWithin b v →
+pub may_stay : (phase : Phase) (zs : List Vector) (k t : ℕ) (b : Brick) (v : Vector) (menu : Menu) (next : Layer) (place : ℕ) →
+    IsMenu phase zs k b v menu → slice_get zs place ≡ Some (zeros t) → All (λ z. length z ≡ t) zs → length v ≡ t → IsWithin b v →
     length next ≡ length zs → MayStay zs menu next
-may_stay phase zs k t b v menu next zero is_menu there widths size within all w c cell = (entry.0, stay)
+may_stay phase zs k t b v menu next place is_menu there widths size within all w c cell = (entry.0, stay)
   where
     still : after k v (zeros t) ≡ v
     still = ap (add v) (scale-zeros (pos (2 ^ k)) t) ∙ add_zeros v t size
 
-    entry : (i : ℕ) × (m : PricedMove) × (slice_get menu i ≡ Some m) × (m.place ≡ zero)
-    entry = is_menu.complete zero (zeros t) there (subst (IsWithin b) (sym still) within)
+    entry : (i : ℕ) × (m : PricedMove) × (slice_get menu i ≡ Some m) × (m.place ≡ place)
+    entry = is_menu.complete place (zeros t) there (subst (IsWithin b) (sym still) within)
 
     from : (u : Vector) × (slice_get zs w ≡ Some u)
     from = read_at zs w (omega (arith, all, slice_get_within next w (Some c) cell))

@@ -2,7 +2,7 @@ use Rattle.std.proofs.Common.{◌≡◌, ◌∙◌, ap, sym, false}
 use Rattle.run_theory.specs.Keys as keys
 use Rattle.run_theory.specs.Outcomes.{Step}
 use Rattle.brick_dp.proofs.BestLaws.{found_is, unbeaten}
-use Rattle.brick_dp.proofs.best.best_step.Goals as goal
+use Rattle.brick_dp.proofs.best.best_step_with.Goals as goal
 
 pub returns-else-beaten-clause-answer : goal.returns-else-beaten-clause-answer
 returns-else-beaten-clause-answer g c =
