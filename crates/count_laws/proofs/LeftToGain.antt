@@ -7,7 +7,7 @@ use Rattle.std.proofs.Math.Nat.{mul-le-mul_left, mul-pos}
 use Rattle.fold_theory.specs.declared.Phase.{Phase}
 use Rattle.lattice_theory.specs.Vectors.{Vector, ◌⊑◌, sub, scale}
 use Rattle.lattice_laws.proofs.Products.{length-rows}
-use Rattle.fold_theory.specs.Programs.{Program, Bricks, phase_cost, widest, IsProgram}
+use Rattle.fold_theory.specs.Programs.{Program, Bricks, phase_cost, IsProgram}
 use Rattle.run_theory.specs.Steps.{Augments, gain}
 use Rattle.run_theory.specs.Outcomes.{widest_entry, bound_number}
 use Rattle.lattice_laws.specs.VectorLists.{sum_of, weight, AreSized}
@@ -68,7 +68,7 @@ module _ (p : Program) (phase : Phase) (program : IsProgram p) (x : Bricks) (at_
     rest_image =
         ap (image p) rest
         ∙ image-back t p (way x y) h sway (parts-sized t h (way x y) u.parts sway)
-            (length_all_zip ◌⊑◌ h (way x y) u.parts)
+        (length_all_zip ◌⊑◌ h (way x y) u.parts)
         ∙ ap (sub (image p (way x y))) (image-times p t m q.move)
 
     nearer_by : Nearer y

@@ -1,6 +1,6 @@
 -- What the greatest multiple of a part uses up of the way: where no entry of the part is past a bound, what is left
 -- counts less up to that bound. No entry of a listed sum, and none of its image, is past the widest entry.
-use Rattle.std.proofs.Common.{◌≡◌, ℕ, zero, suc, ◌+◌, ◌*◌, ◌<◌, ◌≤◌, pos, unsigned_abs, Bool, true, false, ◌&&◌, List, [], ◌∷◌, ◌++◌, map, refl, ap, arith, ◌∙◌, Contains, inl, inr, subst}
+use Rattle.std.proofs.Common.{◌≡◌, ℕ, zero, suc, ◌+◌, ◌<◌, ◌≤◌, pos, unsigned_abs, Bool, true, false, ◌&&◌, List, [], ◌∷◌, ◌++◌, map, refl, ap, arith, ◌∙◌, Contains, inl, inr, subst}
 use Rattle.std.specs.List.{AllZip, AllByRecursion}
 use Rattle.lattice_theory.specs.Lists.{greatest, all_zip}
 use Rattle.lattice_theory.specs.Vectors.{Vector, ◌⊑◌, conforms, add, sub, scale, zeros}

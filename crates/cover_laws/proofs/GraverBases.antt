@@ -1,8 +1,8 @@
 -- The kernel of a slack basis is the Graver basis of the matrix.
-use Rattle.std.proofs.Common.{◌≡◌, zero, suc, pos, negsuc, Bool, true, false, cond, List, ◌∷◌, ◌++◌, length, map, take, drop, refl, ap, sym, ◌∙◌, subst, arith, All, Contains, IsTrue, []}
-use Rattle.std.specs.List.{AllByRecursion, filter}
+use Rattle.std.proofs.Common.{◌≡◌, zero, suc, pos, negsuc, true, false, List, ◌∷◌, ◌++◌, length, take, drop, refl, ap, sym, ◌∙◌, subst, arith, All, Contains, IsTrue, []}
+use Rattle.std.specs.List.{filter}
 use Rattle.std.proofs.lemmas.List.{take_at, drop_at}
-use Rattle.std.proofs.lemmas.List.Elements.{recursion_from_All, All-from_recursion}
+use Rattle.std.proofs.lemmas.List.Elements.{All-from_recursion}
 use Rattle.lattice_theory.specs.Vectors.{Vector, ◌⊑◌, is_zero, leads_positive, zeros, norm1}
 use Rattle.lattice_theory.specs.Matrices.{Matrix, product, element}
 use Rattle.lattice_theory.specs.Lattices.{IsMinimal, IsSlackBasis, kernel}

@@ -1,18 +1,13 @@
 -- The criterion by prefixes decides whether a list is complete for the lattice of a matrix: each of the two says that
 -- the list covers the lattice.
-use Rattle.std.proofs.Common.{◌≡◌, ℕ, zero, suc, ◌+◌, ◌<◌, ◌≤◌, Bool, true, false, ◌&&◌, nat_eq, List, length, take, drop, refl, arith, sym, Contains, inl, inr, subst}
+use Rattle.std.proofs.Common.{◌≡◌, ℕ, zero, suc, ◌+◌, ◌<◌, Bool, true, false, ◌&&◌, nat_eq, List, length, take, drop, refl, arith, sym, Contains, inl, inr}
 use Rattle.std.specs.List.{list_all}
-use Rattle.std.proofs.lemmas.Bool.Decides.{nat_tests}
-use Rattle.std.proofs.lemmas.Bool.{cases_eq}
 use Rattle.lattice_theory.specs.Lists.{numbers_from}
 use Rattle.lattice_theory.specs.Vectors.{Vector, is_listed, is_rising, leads_positive, same, add, sub}
 use Rattle.lattice_theory.specs.Matrices.{Matrix, product, element, unit_vector}
-use Rattle.lattice_theory.specs.Lattices.{InLattice, is_complete_for, is_signed_element, reduces_to_zero}
-use Rattle.lattice_laws.proofs.Tests.{and_true, same_true}
-use Rattle.lattice_laws.proofs.Members.{contains_cases, contains_head, contains_tail, list_all_at}
-use Rattle.lattice_laws.proofs.Conformal.{leads_nonzero}
-use Rattle.lattice_laws.proofs.Elements.{element_in, first_nonzero, closed_add, closed_sub}
-use Rattle.lattice_laws.proofs.UnitVectors.{length-unit}
+use Rattle.lattice_theory.specs.Lattices.{is_complete_for, is_signed_element, reduces_to_zero}
+use Rattle.lattice_laws.proofs.Tests.{and_true}
+use Rattle.lattice_laws.proofs.Members.{contains_cases, list_all_at}
 use Rattle.cover_laws.specs.Elements.{IsNonzeroElement}
 use Rattle.cover_laws.proofs.CompleteLists.{complete_covers}
 use Rattle.criterion_laws.specs.Prefixes.{clashes_settle, is_complete_by_prefixes}

@@ -1,5 +1,5 @@
 -- A list that covers its lattice lists the element of each unit vector, and settles its clashes.
-use Rattle.std.proofs.Common.{◌≡◌, ℕ, suc, ◌<◌, ◌≤◌, true, false, ◌&&◌, ◌||◌, nat_lt, List, [], ◌∷◌, take, Option, Some, None, refl, ap, arith, sym, ◌∙◌, Contains, inl, inr, subst}
+use Rattle.std.proofs.Common.{◌≡◌, ℕ, suc, ◌<◌, ◌≤◌, true, false, ◌||◌, nat_lt, List, [], ◌∷◌, take, Option, Some, None, refl, ap, arith, sym, ◌∙◌, Contains, inl, inr, subst}
 use Rattle.std.specs.List.{list_all, list_any}
 use Rattle.std.proofs.lemmas.Bool.{cases_lt}
 use Rattle.std.proofs.lemmas.List.{take_at}

@@ -2,9 +2,9 @@
 pub use Rattle.std.proofs.lemmas.Bool.{and_from as and_of, or_left, or_right}
 pub use Rattle.lattice_laws.proofs.Tests.{nat_eq_of, lt_true as nat_lt_true}
 pub use Rattle.lattice_laws.proofs.Members.{list_all_of}
-use Rattle.std.proofs.Common.{◌≡◌, ℕ, ◌<◌, nat_eq, nat_lt, Bool, true, false, ◌&&◌, ◌||◌, List, [], ◌∷◌, refl, ap, arith, ◌∙◌, Contains, ◌⊎◌, inl, inr, subst}
+use Rattle.std.proofs.Common.{◌≡◌, ℕ, ◌<◌, nat_lt, Bool, true, false, ◌||◌, List, [], ◌∷◌, refl, ap, arith, ◌∙◌, Contains, ◌⊎◌, inl, inr, subst}
 use Rattle.std.proofs.lemmas.Bool.Decides.{nat_tests}
-use Rattle.std.specs.List.{list_all, list_any}
+use Rattle.std.specs.List.{list_any}
 use Rattle.lattice_theory.specs.Vectors.{Vector, same, is_listed}
 use Rattle.lattice_laws.proofs.Tests.{same_true, same_refl}
 use Rattle.lattice_laws.proofs.Members.{contains_cases, contains_head, contains_tail}

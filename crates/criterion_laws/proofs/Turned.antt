@@ -1,9 +1,8 @@
 -- Signs turned on the one vector or on the other: they clash at the same place, and the sums are opposites.
-use Rattle.std.proofs.Common.{◌≡◌, ℕ, zero, suc, ◌+ℤ◌, ℤ, pos, negsuc, neg_ℤ, nat_lt, Bool, true, false, ◌&&◌, ◌||◌, cond, List, [], ◌∷◌, take, Option, Some, None, refl, ap, arith, sym, ◌∙◌}
+use Rattle.std.proofs.Common.{◌≡◌, ℕ, suc, ℤ, neg_ℤ, nat_lt, Bool, true, false, ◌||◌, cond, List, [], ◌∷◌, take, Option, Some, None, refl, ap, arith, sym, ◌∙◌}
 use Rattle.std.specs.List.{list_any}
 use Rattle.std.specs.Option.{option_map}
 use Rattle.std.proofs.lemmas.Int.{ints}
-use Rattle.std.proofs.lemmas.Bool.Decides.{nat_tests}
 use Rattle.lattice_theory.specs.Vectors.{Vector, conforms, add, opposite}
 use Rattle.lattice_laws.proofs.Tests.{and_true}
 use Rattle.lattice_laws.proofs.Signs.{agrees, agrees_opposites}

@@ -86,8 +86,7 @@ pub within_parts : (b : Brick) (x y v : Vector) → IsWithin b x → IsWithin b 
 within_parts b x y v hx hy part =
     let turned = λ (w : Vector) (below : AllZip ◌≤ℤ◌ w b.upper). flipped ◌≤ℤ◌ w b.upper below in
     let above = all_parts ◌≤ℤ◌ above_parts b.lower x y v hx.0 hy.0 part in
-    let below = all_parts (λ u w. w ≤ℤ u) below_parts b.upper x y v (turned x hx.1) (turned y hy.1) part in
-    (
+    let below = all_parts (λ u w. w ≤ℤ u) below_parts b.upper x y v (turned x hx.1) (turned y hy.1) part in (
       (above.0, flipped (λ u w. w ≤ℤ u) b.upper (add x v) below.0),
       (above.1, flipped (λ u w. w ≤ℤ u) b.upper (sub y v) below.1),
     )

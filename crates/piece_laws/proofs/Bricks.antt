@@ -11,7 +11,6 @@ use Rattle.cover_laws.proofs.Parts.{Part, part_of_complete}
 use Rattle.fold_theory.specs.Programs.{Program, Brick, IsWithin, brick_residual}
 use Rattle.piece_laws.proofs.Residuals.{brick_residual_parts}
 use Rattle.piece_laws.proofs.Bounds.{length-within, within_parts}
-use Rattle.piece_laws.specs.Points.{back}
 
 -- where y is within the bounds it misses the rows by no less than x
 abbrev pub IsNoHelp : Program → Brick → Vector → Vector → Type 0

@@ -1,6 +1,6 @@
 -- Sums of multiples of generators, by count vectors: they are linear in the counts, and where the terms agree with each
 -- other, parts of the counts give parts of the sum.
-use Rattle.std.proofs.Common.{◌≡◌, ℕ, zero, suc, ◌*◌, ◌<◌, ◌≤◌, ℤ, pos, negsuc, ◌+ℤ◌, unsigned_abs, true, List, [], ◌∷◌, length, map, refl, ap, arith, sym, ◌∙◌, ◌⊎◌, inl, inr, subst}
+use Rattle.std.proofs.Common.{◌≡◌, ℕ, zero, suc, ◌<◌, ◌≤◌, ℤ, pos, negsuc, ◌+ℤ◌, unsigned_abs, true, List, [], ◌∷◌, length, map, refl, ap, arith, sym, ◌∙◌, ◌⊎◌, inl, inr, subst}
 use Rattle.std.proofs.lemmas.Int.{ints}
 use Rattle.std.proofs.Math.IntN.{*ℤ_comm}
 use Rattle.std.specs.List.{AllZip, AllByRecursion}

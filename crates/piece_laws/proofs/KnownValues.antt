@@ -1,6 +1,6 @@
 -- Pieces and parts of ways at values worked by hand: two bricks with two columns, and a linking row on the first
 -- columns. From (0 4), (3 1) to (1 3), (2 2) the first brick goes up by (1 -1) and the second down by it.
-use Rattle.std.specs.Prelude.{◌≡◌, ℤ, pos, true, false, List, [], ◌∷◌, refl}
+use Rattle.std.specs.Prelude.{◌≡◌, pos, false, List, [], ◌∷◌, refl}
 use Rattle.std.proofs.Common.{arith}
 use Rattle.std.proofs.lemmas.Int.{ints}
 use Rattle.fold_theory.specs.declared.Phase.TheVariants.{Closed}

@@ -1,5 +1,5 @@
 -- Where each vector within the bounds of a brick misses its rows, no point of the program is feasible.
-use Rattle.std.proofs.Common.{◌≡◌, ℕ, zero, suc, ◌+◌, ◌-◌, ◌<◌, ◌≤◌, List, [], ◌∷◌, length, Some, slice_get, refl, ap, arith, ◌∙◌, subst}
+use Rattle.std.proofs.Common.{◌≡◌, ℕ, zero, suc, ◌+◌, ◌<◌, ◌≤◌, List, [], ◌∷◌, length, Some, slice_get, refl, ap, arith, ◌∙◌, subst}
 use Rattle.std.specs.List.{AllZip}
 use Rattle.std.proofs.lemmas.Option.{slice_get_within, get_or_from_slice_get}
 use Rattle.std.proofs.lemmas.List.Elements.{All-contains}
@@ -9,7 +9,6 @@ use Rattle.lattice_theory.specs.Matrices.{product}
 use Rattle.fold_theory.specs.Programs.{Program, Brick, Bricks, IsBrick, IsProgram, IsWithin, brick_residual}
 use Rattle.fold_theory.specs.Verdicts.{IsInfeasible, Holds}
 use Rattle.lattice_laws.proofs.Sums.{no_rest}
-use Rattle.run_theory.specs.declared.Claim.TheVariants as claim
 
 -- ---- no point is feasible
 

@@ -9,7 +9,6 @@ use Rattle.lattice_laws.proofs.Signs.{part_of, one_zero, abs_parts}
 use Rattle.lattice_laws.proofs.Conformal.{norm1-cons}
 use Rattle.lattice_laws.proofs.Products.{rows-add, length-rows, rows-sub}
 use Rattle.fold_theory.specs.Programs.{Program, Brick, brick_residual}
-use Rattle.piece_laws.specs.Points.{back}
 
 -- two parts of the distance of two numbers
 distance_parts : (r x y v : ℤ) → is_between v (y -ℤ x) ≡ true →

@@ -2,7 +2,7 @@
 use Rattle.std.proofs.Common.{◌≡◌, ℕ, ◌≤◌, nat_le, Bool, true, false, ◌&&◌, ◌||◌, not, List, [], ◌∷◌, ap, arith, ◌∙◌, Contains, inl, inr, subst}
 use Rattle.std.proofs.lemmas.Bool.Decides.{nat_tests}
 use Rattle.lattice_theory.specs.Vectors.{Vector, add, sub, opposite}
-use Rattle.lattice_laws.proofs.Tests.{and_true, le_true}
+use Rattle.lattice_laws.proofs.Tests.{and_true}
 use Rattle.lattice_laws.proofs.Members.{contains_cases}
 use Rattle.lattice_laws.proofs.Conformal.{opposite-opposite, sub-opposite}
 use Rattle.fold_theory.specs.Programs.{Program, Brick, is_within, brick_residual}

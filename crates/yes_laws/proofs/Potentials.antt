@@ -1,11 +1,11 @@
 -- Listed potentials that hold layer by layer, where that of zero at the beginning is not negative, exclude a unit step
 -- to a lower phase cost.
-use Rattle.std.proofs.Common.{◌≡◌, ◌≤◌, ℤ, pos, ◌≤ℤ◌, Bool, true, false, List, [], ◌∷◌, Option, Some, None, refl, arith, ◌-ℤ◌, subst, sym, ap, length, Contains}
+use Rattle.std.proofs.Common.{◌≡◌, ℤ, pos, ◌≤ℤ◌, Bool, true, false, List, [], ◌∷◌, Option, Some, None, refl, arith, ◌-ℤ◌, subst, sym, ap, length, Contains}
 use Rattle.std.proofs.lemmas.Int.{ints}
 use Rattle.fold_theory.specs.declared.Phase.{Phase}
 use Rattle.lattice_theory.specs.Vectors.{Vector, zeros}
 use Rattle.lattice_laws.proofs.Tests.{int_le_true}
-use Rattle.fold_theory.specs.Programs.{Program, Bricks, IsProgram, AreWithin, link_rests, cost, phase_cost}
+use Rattle.fold_theory.specs.Programs.{Program, Bricks, IsProgram, AreWithin, link_rests, phase_cost}
 use Rattle.run_theory.specs.Checker.{at_most, potential_of, layers_hold, starts_at_zero}
 use Rattle.yes_laws.proofs.Layers.{walk_bound}
 use Rattle.piece_laws.specs.Points.{forth}
@@ -16,7 +16,6 @@ use Rattle.std.proofs.lemmas.List.Elements.{All-from_recursion}
 use Rattle.walk_laws.proofs.Candidates.{sized_step_walks}
 use Rattle.piece_laws.proofs.Points.{moved_once}
 use Rattle.piece_laws.proofs.Starts.{sized}
-use Rattle.run_theory.specs.declared.Claim.TheVariants as claim
 
 -- where the potential of zero is not negative, no walk from zero costs less than 0
 module _ (p : Program) (phase : Phase) (zs : List Vector) (rests : Vector) (x : Bricks) where
