@@ -1,5 +1,5 @@
 -- The definitions at values worked by hand.
-use Rattle.std.specs.Prelude.{◌≡◌, ℕ, false, true, List, pos, negsuc, [], ◌∷◌, Some, None, Ok, Err, codes, refl}
+use Rattle.std.specs.Prelude.{◌≡◌, ℕ, false, true, List, pos, negsuc, [], ◌∷◌, Ok, Err, codes, refl}
 use Rattle.fold_theory.specs.declared.Cost.TheVariants.{Quadratic, Points}
 use Rattle.fold_theory.specs.declared.Relation.TheVariants.{Equal, Less, Greater}
 use Rattle.fold_theory.specs.Programs.{Program, Brick}
@@ -8,7 +8,7 @@ use Rattle.mat_files.specs.declared.MatFault.TheVariants as mat
 use Rattle.fold_program.specs.declared.FileKind.TheVariants as file
 use Rattle.fold_program.specs.declared.ProgramFault.TheVariants as program
 use Rattle.fold_files.specs.declared.fault.ReadFault.TheVariants as read
-use Rattle.fold_files.specs.CostText.{bounded_number, count_within, parsed_costs}
+use Rattle.fold_files.specs.CostText.{parsed_costs}
 use Rattle.fold_files.specs.RelationText.{parsed_relations}
 use Rattle.fold_files.specs.Reading.{program_in, point_in, plain_in}
 
@@ -67,17 +67,18 @@ pub token_after : parsed_costs 1 1 (codes "1 1 q 0 0 0 q") ≡ Err 12
 token_after = refl
 
 -- 2 ^ 62 is the largest number
-pub largest_number : bounded_number (codes "-4611686018427387904") ≡ Some (negsuc 4611686018427387903)
+pub largest_number : parsed_costs 1 1 (codes "1 1 q 0 -4611686018427387904 0")
+    ≡ Ok (Quadratic (pos 0) (negsuc 4611686018427387903) (pos 0) ∷ [])
 largest_number = refl
 
-pub larger_number : bounded_number (codes "4611686018427387905") ≡ None
+pub larger_number : parsed_costs 1 1 (codes "1 1 q 0 4611686018427387905 0") ≡ Err 8
 larger_number = refl
 
 -- the value of a count decides, and it has no minus sign
-pub long_count : count_within 1 1000 (codes "+0001000") ≡ Some 1000
+pub long_count : parsed_costs 1 1 (codes "+0001 01 p +0001 0 0") ≡ Ok (Points (record { at = pos 0; value = pos 0 } ∷ []) ∷ [])
 long_count = refl
 
-pub no_count : count_within 1 1000 (codes "-1") ≡ None
+pub no_count : parsed_costs 1 1 (codes "1 1 p -1") ≡ Err 6
 no_count = refl
 
 -- ---- the files of a program of two bricks with two columns each, one linking row and one brick row

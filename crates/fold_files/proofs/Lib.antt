@@ -1,5 +1,3 @@
-pub mod RepeatLaws
-pub mod ShapeLaws
 pub mod ToldLaws
 pub mod FileLaws
 pub mod CauseLaws

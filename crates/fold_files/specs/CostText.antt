@@ -1,74 +1,69 @@
 -- Cost files: the costs that the tokens spell, or the place of the first token that cannot stand in its place.
-use Rattle.std.specs.Prelude.{◌≡◌, ℕ, ◌*◌, ◌^◌, ℤ, nat_le, ◌&&◌, List, [], ◌∷◌, length, cond, Option, Some, None}
-use Rattle.std.specs.Prelude.{Result, Ok, Err, bytes_eq, codes}
+use Rattle.std.specs.Prelude.{◌≡◌, ℕ, ◌*◌, ◌^◌, List, cond, Result, Ok, Err, bytes_eq, codes}
 use Rattle.fold_theory.specs.declared.Cost.{Cost}
 use Rattle.fold_theory.specs.declared.Cost.TheVariants.{Quadratic, Points}
 use Rattle.fold_theory.specs.declared.Breakpoint.{Breakpoint}
-use Rattle.mat_files.specs.declared.numbers.Spelled.{Spelled}
-use Rattle.mat_files.specs.declared.numbers.Spelled.TheVariants.{NotNumber, TooBig, Value}
-use Rattle.mat_files.specs.Tokens.{Token, tokens, number_of, count_of, spelled, and_then}
-use Rattle.fold_files.specs.Sequences.{first_by, repeated, ended}
+use Rattle.mat_files.specs.declared.fault.FaultKind.{FaultKind}
+use Rattle.mat_files.specs.declared.fault.FaultKind.TheVariants as kind
+use Rattle.mat_files.specs.declared.fault.TokenFault.{TokenFault}
+use Rattle.mat_files.specs.Tokens.{Token, Left, and_then}
+use Rattle.mat_files.specs.Reading.{Read, refused, next_token, next_number, next_count, repeated, only}
+use Rattle.fold_files.specs.Places.{placed}
 use Rattle.fold_files.specs.declared.fault.CostFileFault.{CostFileFault}
 use Rattle.fold_files.specs.declared.fault.CostFileFault.TheVariants.{Syntax, Memory}
 
--- the number, where there is one that is not too big
-abbrev pub value_of : Spelled → Option ℤ
-value_of NotNumber = None
-value_of TooBig = None
-value_of (Value a) = Some a
-
--- the number that the text spells, at most 2 ^ 62 in absolute value
-abbrev pub bounded_number : List ℕ → Option ℤ
-bounded_number text = value_of (spelled (2 ^ 62) (number_of text))
-
--- the count, where it is in this range
-abbrev pub within : ℕ → ℕ → Option ℕ → Option ℕ
-within from to None = None
-within from to (Some n) = cond (nat_le from n && nat_le n to) (Some n) None
-
--- the count that the text spells, in this range
-abbrev pub count_within : ℕ → ℕ → List ℕ → Option ℕ
-count_within from to text = within from to (count_of text)
-
 -- a place and the value there
-abbrev pub breakpoint_in : ℕ → List Token → Result (Breakpoint × List Token) ℕ
-breakpoint_in end ts =
-    and_then (first_by bounded_number end ts) (λ at. and_then (first_by bounded_number end at.1) (λ value.
+abbrev pub next_breakpoint : Left → Read Breakpoint
+next_breakpoint left =
+    and_then (next_number (2 ^ 62) left) (λ at. and_then (next_number (2 ^ 62) at.1) (λ value.
     Ok (record { at = at.0; value = value.0 }, value.1)))
 
 -- three numbers
-abbrev pub quadratic_in : ℕ → List Token → Result (Cost × List Token) ℕ
-quadratic_in end ts =
-    and_then (first_by bounded_number end ts) (λ a. and_then (first_by bounded_number end a.1) (λ b.
-    and_then (first_by bounded_number end b.1) (λ c. Ok (Quadratic a.0 b.0 c.0, c.1))))
+abbrev pub next_quadratic : Left → Read Cost
+next_quadratic left =
+    and_then (next_number (2 ^ 62) left) (λ a. and_then (next_number (2 ^ 62) a.1) (λ b.
+    and_then (next_number (2 ^ 62) b.1) (λ c. Ok (Quadratic a.0 b.0 c.0, c.1))))
 
 -- a count of 1 to 1,000, and so many breakpoints
-abbrev pub points_in : ℕ → List Token → Result (Cost × List Token) ℕ
-points_in end ts =
-    and_then (first_by (count_within 1 1000) end ts) (λ m.
-    and_then (repeated (breakpoint_in end) m.0 m.1) (λ ps. Ok (Points ps.0, ps.1)))
+abbrev pub next_points : Left → Read Cost
+next_points left =
+    and_then (next_count 1 1000 kind.TooMany left) (λ m.
+    and_then (repeated next_breakpoint m.0 m.1) (λ ps. Ok (Points ps.0, ps.1)))
 
 -- the cost after its first token, which says of which form it is
-abbrev pub form_in : ℕ → Token → List Token → Result (Cost × List Token) ℕ
-form_in end t ts =
-    cond (bytes_eq t.text (codes "q")) (quadratic_in end ts)
-    (cond (bytes_eq t.text (codes "p")) (points_in end ts) (Err t.at))
+abbrev pub cost_after : Token → Left → Read Cost
+cost_after t left =
+    cond (bytes_eq t.text (codes "q")) (next_quadratic left)
+    (cond (bytes_eq t.text (codes "p")) (next_points left) (refused t.at kind.Word))
 
--- a cost, and the tokens after it
-abbrev pub cost_in : ℕ → List Token → Result (Cost × List Token) ℕ
-cost_in end [] = Err end
-cost_in end (t ∷ ts) = form_in end t ts
+-- a cost
+abbrev pub next_cost : Left → Read Cost
+next_cost left = and_then (next_token left) (λ t. cost_after t.0 t.1)
 
--- the costs of n bricks of t columns, brick by brick, or the place of the first token that cannot stand in its place
-abbrev pub costs_from : ℕ → ℕ → ℕ → List Token → Result (List Cost) ℕ
-costs_from n t end ts =
-    and_then (first_by (count_within n n) end ts)
-    (λ bricks. and_then (first_by (count_within t t) end bricks.1) (λ cols.
-    and_then (repeated (cost_in end) (n * t) cols.1) (λ costs. ended costs.0 costs.1)))
+-- the counts n and t, and the costs of n bricks of t columns, brick by brick
+abbrev pub next_costs : ℕ → ℕ → Left → Read (List Cost)
+next_costs n t left =
+    and_then (next_count n n kind.TooMany left) (λ bricks. and_then (next_count t t kind.TooMany bricks.1) (λ cols.
+    repeated next_cost (n * t) cols.1))
 
 -- the costs that the bytes spell, or the place of the first token that is refused: the end where they end early
 abbrev pub parsed_costs : ℕ → ℕ → List ℕ → Result (List Cost) ℕ
-parsed_costs n t bytes = costs_from n t (length bytes) (tokens bytes)
+parsed_costs n t bytes = placed (only (next_costs n t) bytes)
+
+-- the fault at a place, or want of memory
+abbrev pub cost_fault_of : ℕ → FaultKind → CostFileFault
+cost_fault_of at kind.Word = Syntax at
+cost_fault_of at kind.NotNumber = Syntax at
+cost_fault_of at kind.NoBound = Syntax at
+cost_fault_of at kind.TooBig = Syntax at
+cost_fault_of at kind.TooMany = Syntax at
+cost_fault_of at (kind.Size got from to) = Syntax at
+cost_fault_of at kind.EndsEarly = Syntax at
+cost_fault_of at kind.Extra = Syntax at
+cost_fault_of at kind.Memory = Memory
+
+abbrev pub cost_fault : TokenFault → CostFileFault
+cost_fault f = cost_fault_of f.at f.kind
 
 -- the fault is at the place that reading gives; want of memory may come at any time
 abbrev pub IsCostFileFault : {A : Type 0} → Result A ℕ → CostFileFault → Type 0

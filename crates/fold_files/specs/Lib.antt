@@ -1,4 +1,4 @@
-pub mod Sequences
+pub mod Places
 pub mod CostText
 pub mod RelationText
 pub mod Reading

@@ -1,14 +1,15 @@
 //! Reading cost files.
 
-ghost use Rattle.std.specs.Prelude.{◌≡◌, ◌≤◌, ◌*◌, Ok, MatchResult, IfOk, All, IsTrue, length};
+ghost use Rattle.std.specs.Prelude.{◌≡◌, ◌≤◌, ◌*◌, ◌^◌, Ok, MatchResult, IfOk, All, IsTrue, length};
 ghost use Rattle.lattice_theory.specs.Vectors.{is_bounded};
 ghost use Rattle.convex_costs.specs.Bounds.{IsBoundedPoint, AreBounded};
-ghost use Rattle.fold_files.specs.Sequences.{first_by, repeated};
-ghost use Rattle.fold_files.specs.CostText.{bounded_number, count_within, breakpoint_in, quadratic_in, points_in, cost_in, parsed_costs, IsCostFileFault};
+ghost use Rattle.mat_files.specs.Reading.{Gives, IsTokenFault, next_number, repeated, only};
+ghost use Rattle.fold_files.specs.CostText.{next_breakpoint, next_quadratic, next_points, next_cost, next_costs};
+ghost use Rattle.fold_files.specs.CostText.{parsed_costs, IsCostFileFault};
 
 use crate::fault::CostFileFault;
 use convex_costs::{Breakpoint, Breakpoints, Cost};
-use mat_files::{Scanner, Spelled, spelled_count, spelled_number};
+use mat_files::{FaultKind, Scanner, TokenFault};
 use std::alloc::Global;
 
 /// The costs that a cost file holds, for `n` bricks of `t` columns, brick by brick and column by column.
@@ -27,69 +28,71 @@ pub fn parse_costs(alloc: Global, bytes: &[u8], n: u32, t: u32) -> Result<Vec<Co
     ensures bounded { IfOk result (λ cs. All AreBounded cs.items) }
     ensures many { IfOk result (λ cs. length cs.items ≡ n * t) }
 {
-    let end = bytes.len();
+    Ok(all_costs(alloc, bytes, n, t)?)
+}
+
+/// The costs that are all that the bytes spell.
+fn all_costs(alloc: Global, bytes: &[u8], n: u32, t: u32) -> Result<Vec<Cost>, TokenFault>
+    requires n { n ≤ 10000 }
+    requires t { t ≤ 32 }
+    ensures read { MatchResult result (λ cs. only (next_costs n t) bytes.now ≡ Ok cs.items)
+        (IsTokenFault (only (next_costs n t) bytes.now)) }
+    ensures bounded { IfOk result (λ cs. All AreBounded cs.items) }
+    ensures many { IfOk result (λ cs. length cs.items ≡ n * t) }
+{
     let mut tokens = Scanner::new(bytes);
-    count(&mut tokens, end, n, n)?;
-    count(&mut tokens, end, t, t)?;
-    let costs = costs(alloc, &mut tokens, end, n * t)?;
-    match tokens.next() {
-        None => Ok(costs),
-        Some(token) => Err(CostFileFault::Syntax { at: token.at }),
-    }
+    tokens.count(u64::from(n), u64::from(n), FaultKind::TooMany)?;
+    tokens.count(u64::from(t), u64::from(t), FaultKind::TooMany)?;
+    let costs = costs(alloc, &mut tokens, n * t)?;
+    tokens.end()?;
+    Ok(costs)
 }
 
 /// The next `count` costs.
-fn costs(
-    alloc: Global,
-    tokens: &mut Scanner<'_>,
-    end: usize,
-    count: u32,
-) -> Result<Vec<Cost>, CostFileFault>
-    ensures read { MatchResult result (λ cs. repeated (cost_in end) count tokens.old ≡ Ok (cs.items, tokens.new))
-        (IsCostFileFault (repeated (cost_in end) count tokens.old)) }
+fn costs(alloc: Global, tokens: &mut Scanner<'_>, count: u32) -> Result<Vec<Cost>, TokenFault>
+    ensures read { MatchResult result (λ cs. repeated next_cost count tokens.old ≡ Ok (cs.items, tokens.new))
+        (IsTokenFault (repeated next_cost count tokens.old)) }
     ensures bounded { IfOk result (λ cs. All AreBounded cs.items) }
     ensures many { IfOk result (λ cs. length cs.items ≡ count) }
 {
     let mut costs = Vec::new(alloc);
     for _ in 0..count {
-        costs.push(cost(alloc, tokens, end)?)?;
+        costs.push(cost(alloc, tokens)?)?;
     }
     Ok(costs)
 }
 
 /// The next cost.
-fn cost(alloc: Global, tokens: &mut Scanner<'_>, end: usize) -> Result<Cost, CostFileFault>
-    ensures read { MatchResult result (λ c. cost_in end tokens.old ≡ Ok (c, tokens.new)) (IsCostFileFault (cost_in end tokens.old)) }
+fn cost(alloc: Global, tokens: &mut Scanner<'_>) -> Result<Cost, TokenFault>
+    ensures read { MatchResult result (λ c. next_cost tokens.old ≡ Ok (c, tokens.new)) (IsTokenFault (next_cost tokens.old)) }
     ensures bounded { IfOk result AreBounded }
 {
-    let Some(token) = tokens.next() else {
-        return Err(CostFileFault::Syntax { at: end });
-    };
+    let token = tokens.token()?;
     match token.text {
-        b"q" => quadratic(tokens, end),
-        b"p" => points(alloc, tokens, end),
-        _ => Err(CostFileFault::Syntax { at: token.at }),
+        b"q" => quadratic(tokens),
+        b"p" => points(alloc, tokens),
+        _ => Err(TokenFault::new(token.at, FaultKind::Word)),
     }
 }
 
 /// The quadratic cost of the next three numbers.
-fn quadratic(tokens: &mut Scanner<'_>, end: usize) -> Result<Cost, CostFileFault>
-    ensures read { MatchResult result (λ c. quadratic_in end tokens.old ≡ Ok (c, tokens.new)) (IsCostFileFault (quadratic_in end tokens.old)) }
+fn quadratic(tokens: &mut Scanner<'_>) -> Result<Cost, TokenFault>
+    ensures read { Gives (next_quadratic tokens.old) result tokens.new }
     ensures bounded { IfOk result AreBounded }
 {
-    let a = number(tokens, end)?;
-    let b = number(tokens, end)?;
-    let c = number(tokens, end)?;
+    let a = number(tokens)?;
+    let b = number(tokens)?;
+    let c = number(tokens)?;
     Ok(Cost::Quadratic { a, b, c })
 }
 
 /// The cost of the next count and so many breakpoints.
-fn points(alloc: Global, tokens: &mut Scanner<'_>, end: usize) -> Result<Cost, CostFileFault>
-    ensures read { MatchResult result (λ c. points_in end tokens.old ≡ Ok (c, tokens.new)) (IsCostFileFault (points_in end tokens.old)) }
+fn points(alloc: Global, tokens: &mut Scanner<'_>) -> Result<Cost, TokenFault>
+    ensures read { MatchResult result (λ c. next_points tokens.old ≡ Ok (c, tokens.new)) (IsTokenFault (next_points tokens.old)) }
     ensures bounded { IfOk result AreBounded }
 {
-    let count = count(tokens, end, 1, 1_000)?;
-    let points = breakpoints(alloc, tokens, end, count)?;
+    let count = tokens.count(1, 1_000, FaultKind::TooMany)?;
+    let points = breakpoints(alloc, tokens, count)?;
     Ok(Cost::Points(Breakpoints::from_vec(points)))
 }
 
@@ -97,60 +100,36 @@ fn points(alloc: Global, tokens: &mut Scanner<'_>, end: usize) -> Result<Cost, C
 fn breakpoints(
     alloc: Global,
     tokens: &mut Scanner<'_>,
-    end: usize,
-    count: u32,
-) -> Result<Vec<Breakpoint>, CostFileFault>
-    ensures read { MatchResult result (λ ps. repeated (breakpoint_in end) count tokens.old ≡ Ok (ps.items, tokens.new))
-        (IsCostFileFault (repeated (breakpoint_in end) count tokens.old)) }
+    count: u64,
+) -> Result<Vec<Breakpoint>, TokenFault>
+    ensures read { MatchResult result (λ ps. repeated next_breakpoint count tokens.old ≡ Ok (ps.items, tokens.new))
+        (IsTokenFault (repeated next_breakpoint count tokens.old)) }
     ensures bounded { IfOk result (λ ps. All IsBoundedPoint ps.items) }
     ensures many { IfOk result (λ ps. length ps.items ≡ count) }
 {
     let mut points = Vec::new(alloc);
     for _ in 0..count {
-        points.push(breakpoint(tokens, end)?)?;
+        points.push(breakpoint(tokens)?)?;
     }
     Ok(points)
 }
 
 /// The breakpoint of the next two numbers.
-fn breakpoint(tokens: &mut Scanner<'_>, end: usize) -> Result<Breakpoint, CostFileFault>
-    ensures read { MatchResult result (λ p. breakpoint_in end tokens.old ≡ Ok (p, tokens.new)) (IsCostFileFault (breakpoint_in end tokens.old)) }
+fn breakpoint(tokens: &mut Scanner<'_>) -> Result<Breakpoint, TokenFault>
+    ensures read { Gives (next_breakpoint tokens.old) result tokens.new }
     ensures bounded { IfOk result IsBoundedPoint }
 {
-    let at = number(tokens, end)?;
-    let value = number(tokens, end)?;
+    let at = number(tokens)?;
+    let value = number(tokens)?;
     Ok(Breakpoint { at, value })
 }
 
 /// The next number, at most `2^62` in absolute value.
-fn number(tokens: &mut Scanner<'_>, end: usize) -> Result<i64, CostFileFault>
-    ensures read { MatchResult result (λ a. first_by bounded_number end tokens.old ≡ Ok (a, tokens.new))
-        (IsCostFileFault (first_by bounded_number end tokens.old)) }
+fn number(tokens: &mut Scanner<'_>) -> Result<i64, TokenFault>
+    ensures read { Gives (next_number (2 ^ 62) tokens.old) result tokens.new }
     ensures bounded { IfOk result (λ a. IsTrue (is_bounded a)) }
 {
-    let Some(token) = tokens.next() else {
-        return Err(CostFileFault::Syntax { at: end });
-    };
-    match spelled_number(token.text, 1 << 62) {
-        Spelled::Value(value) => Ok(value as i64),
-        _ => Err(CostFileFault::Syntax { at: token.at }),
-    }
-}
-
-/// The next count, in this range.
-fn count(tokens: &mut Scanner<'_>, end: usize, from: u32, to: u32) -> Result<u32, CostFileFault>
-    ensures read { MatchResult result (λ n. first_by (count_within from to) end tokens.old ≡ Ok (n, tokens.new))
-        (IsCostFileFault (first_by (count_within from to) end tokens.old)) }
-    ensures from { IfOk result (λ n. from ≤ n) }
-    ensures to { IfOk result (λ n. n ≤ to) }
-{
-    let Some(token) = tokens.next() else {
-        return Err(CostFileFault::Syntax { at: end });
-    };
-    match spelled_count(token.text, u128::from(to)) {
-        Spelled::Value(value) if i128::from(from) <= value => Ok(value as u32),
-        _ => Err(CostFileFault::Syntax { at: token.at }),
-    }
+    tokens.number(1 << 62)
 }
 
 #[cfg(test)]

@@ -6,7 +6,7 @@ ghost use Rattle.fold_files.specs.Faults.{form_fault, load_fault};
 
 use fold_program::{FileKind, ProgramFault};
 use fold_shelf::LoadFault;
-use mat_files::MatFault;
+use mat_files::{FaultKind, MatFault, TokenFault};
 use std::alloc::{AllocError, AllocFailed};
 use thiserror::Error;
 
@@ -22,19 +22,16 @@ pub enum CostFileFault {
     Memory,
 }
 
-impl From<AllocError> for CostFileFault {
-    ghost from_gives = { λ _ e. e ≡ Memory };
+impl From<TokenFault> for CostFileFault {
+    ghost use Rattle.fold_files.specs.CostText.{cost_fault};
 
-    fn from(_: AllocError) -> CostFileFault {
-        CostFileFault::Memory
-    }
-}
+    ghost from_gives = { λ f e. e ≡ cost_fault f };
 
-impl<T: Drop> From<AllocFailed<T>> for CostFileFault {
-    ghost from_gives = { λ _ e. e ≡ Memory };
-
-    fn from(_: AllocFailed<T>) -> CostFileFault {
-        CostFileFault::Memory
+    fn from(f: TokenFault) -> CostFileFault {
+        match f.kind {
+            FaultKind::Memory => CostFileFault::Memory,
+            _ => CostFileFault::Syntax { at: f.at },
+        }
     }
 }
 
@@ -50,23 +47,16 @@ pub enum RelationFault {
     Memory,
 }
 
-impl From<AllocError> for RelationFault {
-    ghost use Rattle.fold_files.specs.declared.fault.RelationFault.TheVariants as relation;
+impl From<TokenFault> for RelationFault {
+    ghost use Rattle.fold_files.specs.RelationText.{relation_fault};
 
-    ghost from_gives = { λ _ e. e ≡ relation.Memory };
+    ghost from_gives = { λ f e. e ≡ relation_fault f };
 
-    fn from(_: AllocError) -> RelationFault {
-        RelationFault::Memory
-    }
-}
-
-impl<T: Drop> From<AllocFailed<T>> for RelationFault {
-    ghost use Rattle.fold_files.specs.declared.fault.RelationFault.TheVariants as relation;
-
-    ghost from_gives = { λ _ e. e ≡ relation.Memory };
-
-    fn from(_: AllocFailed<T>) -> RelationFault {
-        RelationFault::Memory
+    fn from(f: TokenFault) -> RelationFault {
+        match f.kind {
+            FaultKind::Memory => RelationFault::Memory,
+            _ => RelationFault::Syntax { at: f.at },
+        }
     }
 }
 

@@ -1,12 +1,12 @@
 //! Reading relation files.
 
 ghost use Rattle.std.specs.Prelude.{◌≡◌, Ok, MatchResult, IfOk, length};
-ghost use Rattle.fold_files.specs.Sequences.{first_by, repeated};
-ghost use Rattle.fold_files.specs.RelationText.{number_exactly, relation_of, parsed_relations, IsRelationFault};
+ghost use Rattle.mat_files.specs.Reading.{Gives, IsTokenFault, next_by, repeated, only};
+ghost use Rattle.fold_files.specs.RelationText.{relation_at, next_relations, parsed_relations, IsRelationFault};
 
 use crate::fault::RelationFault;
 use fold_program::Relation;
-use mat_files::{Scanner, Spelled, spelled_number};
+use mat_files::{FaultKind, Scanner, TokenFault};
 use std::alloc::Global;
 
 /// The relations that a relation file holds, for `r` linking rows, in their order.
@@ -18,61 +18,50 @@ pub fn parse_relations(alloc: Global, bytes: &[u8], r: u32) -> Result<Vec<Relati
     ensures parsed { MatchResult result (λ rs. parsed_relations r bytes.now ≡ Ok rs.items) (IsRelationFault (parsed_relations r bytes.now)) }
     ensures many { IfOk result (λ rs. length rs.items ≡ r) }
 {
-    let end = bytes.len();
+    Ok(all_relations(alloc, bytes, r)?)
+}
+
+/// The relations that are all that the bytes spell.
+fn all_relations(alloc: Global, bytes: &[u8], r: u32) -> Result<Vec<Relation>, TokenFault>
+    ensures read { MatchResult result (λ rs. only (next_relations r) bytes.now ≡ Ok rs.items)
+        (IsTokenFault (only (next_relations r) bytes.now)) }
+    ensures many { IfOk result (λ rs. length rs.items ≡ r) }
+{
     let mut tokens = Scanner::new(bytes);
-    number(&mut tokens, end, 1)?;
-    number(&mut tokens, end, r)?;
-    let relations = relations(alloc, &mut tokens, end, r)?;
-    match tokens.next() {
-        None => Ok(relations),
-        Some(token) => Err(RelationFault::Syntax { at: token.at }),
-    }
+    tokens.size(1, 1)?;
+    tokens.size(r, r)?;
+    let relations = relations(alloc, &mut tokens, r)?;
+    tokens.end()?;
+    Ok(relations)
 }
 
 /// The next `count` relations.
 fn relations(
     alloc: Global,
     tokens: &mut Scanner<'_>,
-    end: usize,
     count: u32,
-) -> Result<Vec<Relation>, RelationFault>
-    ensures read { MatchResult result (λ rs. repeated (first_by relation_of end) count tokens.old ≡ Ok (rs.items, tokens.new))
-        (IsRelationFault (repeated (first_by relation_of end) count tokens.old)) }
+) -> Result<Vec<Relation>, TokenFault>
+    ensures read { MatchResult result (λ rs. repeated (next_by relation_at) count tokens.old ≡ Ok (rs.items, tokens.new))
+        (IsTokenFault (repeated (next_by relation_at) count tokens.old)) }
     ensures many { IfOk result (λ rs. length rs.items ≡ count) }
 {
     let mut relations = Vec::new(alloc);
     for _ in 0..count {
-        relations.push(relation(tokens, end)?)?;
+        relations.push(relation(tokens)?)?;
     }
     Ok(relations)
 }
 
 /// The next relation.
-fn relation(tokens: &mut Scanner<'_>, end: usize) -> Result<Relation, RelationFault>
-    ensures { MatchResult result (λ s. first_by relation_of end tokens.old ≡ Ok (s, tokens.new)) (IsRelationFault (first_by relation_of end tokens.old)) }
+fn relation(tokens: &mut Scanner<'_>) -> Result<Relation, TokenFault>
+    ensures { Gives (next_by relation_at tokens.old) result tokens.new }
 {
-    let Some(token) = tokens.next() else {
-        return Err(RelationFault::Syntax { at: end });
-    };
+    let token = tokens.token()?;
     match token.text {
         b"=" => Ok(Relation::Equal),
         b"<" => Ok(Relation::Less),
         b">" => Ok(Relation::Greater),
-        _ => Err(RelationFault::Syntax { at: token.at }),
-    }
-}
-
-/// The next number, which has to be this one.
-fn number(tokens: &mut Scanner<'_>, end: usize, wanted: u32) -> Result<(), RelationFault>
-    ensures { MatchResult result (λ _. first_by (number_exactly wanted) end tokens.old ≡ Ok (wanted, tokens.new))
-        (IsRelationFault (first_by (number_exactly wanted) end tokens.old)) }
-{
-    let Some(token) = tokens.next() else {
-        return Err(RelationFault::Syntax { at: end });
-    };
-    match spelled_number(token.text, u128::from(wanted)) {
-        Spelled::Value(value) if value == i128::from(wanted) => Ok(()),
-        _ => Err(RelationFault::Syntax { at: token.at }),
+        _ => Err(TokenFault::new(token.at, FaultKind::Word)),
     }
 }
 

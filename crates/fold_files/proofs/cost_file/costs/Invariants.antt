@@ -1,14 +1,12 @@
-use Rattle.std.proofs.Common.{◌≡◌, ◌-◌, length, All}
+use Rattle.std.proofs.Common.{◌≡◌, length, All, Ok}
 use Rattle.convex_costs.specs.Bounds.{AreBounded}
-use Rattle.fold_files.specs.Sequences.{repeated}
-use Rattle.fold_files.specs.CostText.{cost_in}
-use Rattle.fold_files.proofs.RepeatLaws.{with_front}
+use Rattle.mat_files.specs.Reading.{repeated}
+use Rattle.fold_files.specs.CostText.{next_cost}
 use Rattle.fold_files.proofs.cost_file.costs.Given as goal
 
 abbrev pub invariant-loop : goal.invariant-loop
 invariant-loop l = record {
-  read : with_front l.costs.items (repeated (cost_in l.end) (l.count - l.counter) l.tokens) ≡ repeated (cost_in l.end)
-      l.count l.fn.tokens;
+  read : repeated next_cost l.counter l.fn.tokens ≡ Ok (l.costs.items, l.tokens);
   bounded : All AreBounded l.costs.items;
   many : length l.costs.items ≡ l.counter;
 }

@@ -1,7 +1,7 @@
 use Rattle.std.proofs.Common.{ℕ, ◌^◌, List, subst}
 use Rattle.mat_files.specs.MatrixText.{parsed_matrix, IsMatFault}
 use Rattle.fold_files.specs.Reading.{bytes_of}
-use Rattle.fold_files.proofs.ShapeLaws.{parsed_admits}
+use Rattle.mat_files.proofs.ShapeLaws.{parsed_admits}
 use Rattle.fold_files.proofs.CauseLaws.{form_refused}
 use Rattle.fold_files.proofs.files.read_matrix.Goals as goal
 

@@ -1,16 +1,21 @@
-use Rattle.std.proofs.Common.{◌≡◌, arith, ◌++◌, ◌∷◌, []}
-use Rattle.fold_files.specs.Sequences.{first_by}
-use Rattle.fold_files.specs.RelationText.{relation_of}
-use Rattle.fold_files.proofs.RepeatLaws.{repeated_goes_on}
+use Rattle.std.proofs.Common.{◌≡◌, Err, arith, rules, ◌++◌, ◌∷◌, []}
+use Rattle.mat_files.specs.Reading.{repeated, next_by}
+use Rattle.mat_files.proofs.RepeatLaws.{one_more_read, repeated_refused}
+use Rattle.fold_files.specs.RelationText.{relation_at}
 use Rattle.fold_files.proofs.relation_file.relations.Goals as goal
+
+pub returns-in_err-relation-clause-read : goal.returns-in_err-relation-clause-read
+returns-in_err-relation-clause-read c =
+    let refused : repeated (next_by relation_at) c.args.count c.args.tokens.now ≡ Err c.in_err-relation.field-0.0 =
+    repeated_refused (next_by relation_at) c.loop.counter c.args.count c.args.tokens.now c.loop.tokens c.loop.relations.items _ c.loop-test.true
+    c.loop.invariant.read c.in_err-relation.ensures in
+    search (rules, refused)
 
 pub loop-preserved : goal.loop-preserved
 loop-preserved c =
-    let pushed : c.push.new.self.items ≡ c.loop.relations.items ++ c.in_ok-relation.field-0 ∷ [] =
-    c.in_ok-push.ensures.items in
+    let pushed : c.push.new.self.items ≡ c.loop.relations.items ++ c.in_ok-relation.field-0 ∷ [] = c.in_ok-push.ensures.items in
     record {
-      read = rw pushed (repeated_goes_on (first_by relation_of c.args.end) c.loop.relations.items c.args.count c.loop.counter
-          c.loop.tokens c.relation.new.tokens c.in_ok-relation.field-0 _
-          c.loop-test.true c.in_ok-relation.ensures c.loop.invariant.read);
+      read = rw pushed (one_more_read (next_by relation_at) c.loop.counter c.args.tokens.now c.loop.tokens c.relation.new.tokens c.loop.relations.items
+          c.in_ok-relation.field-0 c.loop.invariant.read c.in_ok-relation.ensures);
       many = omega (arith, c.in_ok-push.ensures.len, c.loop.invariant.many);
     }
