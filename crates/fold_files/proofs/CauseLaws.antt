@@ -150,18 +150,19 @@ module _ (before now : Folder) (prefix : List ℕ) (found : List File → Result
     form_refused (mat.Shape at got from to) is = (tt, stops_form (mat.Shape at got from to) is)
 
   -- why the cost file is refused is why no costs are read
-  pub costs_refused : {A : Type 0} (parsed : List ℕ → Result A ℕ) (kept : Result A ℕ → Result A ReadFault)
-      → ((at : ℕ) → kept (Err at) ≡ Err (read.Costs at)) → (fault : CostFileFault) → IsCostFileFault (parsed bytes) fault
+  pub costs_refused : {A : Type 0} (parsed : List ℕ → Result A CostFileFault) (kept : Result A CostFileFault → Result A ReadFault)
+      → ((f : CostFileFault) → kept (Err f) ≡ Err (costs_fault f)) → (fault : CostFileFault) → IsCostFileFault (parsed bytes) fault
       → IsReadCause (λ fs. and_then (found fs) (λ b. kept (parsed b))) before now prefix (costs_fault fault)
   costs_refused parsed kept stays cost.Memory is = tt
-  costs_refused parsed kept stays (cost.Syntax at) is = (tt, stops_then (λ b. kept (parsed b)) (read.Costs at) (ap kept is ∙ stays at))
+  costs_refused parsed kept stays (cost.Syntax at) is = (tt, stops_then (λ b. kept (parsed b)) (read.Costs at) (ap kept is ∙ stays (cost.Syntax at)))
 
   -- and so of the relation file
-  pub relations_refused : {A : Type 0} (parsed : List ℕ → Result A ℕ) (kept : Result A ℕ → Result A ReadFault)
-      → ((at : ℕ) → kept (Err at) ≡ Err (read.Relations at)) → (fault : RelationFault) → IsRelationFault (parsed bytes) fault
+  pub relations_refused : {A : Type 0} (parsed : List ℕ → Result A RelationFault) (kept : Result A RelationFault → Result A ReadFault)
+      → ((f : RelationFault) → kept (Err f) ≡ Err (relations_fault f)) → (fault : RelationFault) → IsRelationFault (parsed bytes) fault
       → IsReadCause (λ fs. and_then (found fs) (λ b. kept (parsed b))) before now prefix (relations_fault fault)
   relations_refused parsed kept stays relation.Memory is = tt
-  relations_refused parsed kept stays (relation.Syntax at) is = (tt, stops_then (λ b. kept (parsed b)) (read.Relations at) (ap kept is ∙ stays at))
+  relations_refused parsed kept stays (relation.Syntax at) is =
+      (tt, stops_then (λ b. kept (parsed b)) (read.Relations at) (ap kept is ∙ stays (relation.Syntax at)))
 
 -- what holds of a fault holds of the error of a call that answers it
 pub of_error : {A F : Type 0} (r : Result A F) (f : F) (P : F → Type 0) → IsErrAnd r (λ e. e ≡ f) → P f → IfErr r P

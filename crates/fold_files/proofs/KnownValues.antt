@@ -1,5 +1,5 @@
 -- The definitions at values worked by hand.
-use Rattle.std.specs.Prelude.{◌≡◌, ℕ, false, true, List, pos, negsuc, [], ◌∷◌, Ok, Err, codes, refl}
+use Rattle.std.specs.Prelude.{◌≡◌, ℕ, false, true, List, pos, negsuc, [], ◌∷◌, Some, None, Ok, Err, codes, refl}
 use Rattle.fold_theory.specs.declared.Cost.TheVariants.{Quadratic, Points}
 use Rattle.fold_theory.specs.declared.Relation.TheVariants.{Equal, Less, Greater}
 use Rattle.fold_theory.specs.Programs.{Program, Brick}
@@ -7,6 +7,8 @@ use Rattle.fold_shelf.specs.Outside.{File, without}
 use Rattle.mat_files.specs.declared.MatFault.TheVariants as mat
 use Rattle.fold_program.specs.declared.FileKind.TheVariants as file
 use Rattle.fold_program.specs.declared.ProgramFault.TheVariants as program
+use Rattle.fold_files.specs.declared.fault.CostFileFault.TheVariants as cost
+use Rattle.fold_files.specs.declared.fault.RelationFault.TheVariants as relation
 use Rattle.fold_files.specs.declared.fault.ReadFault.TheVariants as read
 use Rattle.fold_files.specs.CostText.{parsed_costs}
 use Rattle.fold_files.specs.RelationText.{parsed_relations}
@@ -23,25 +25,25 @@ pub a_line : parsed_costs 1 1 (codes "1 1 p 2 0 0 4 8")
     ≡ Ok (Points (record { at = pos 0; value = pos 0 } ∷ record { at = pos 4; value = pos 8 } ∷ []) ∷ [])
 a_line = refl
 
-pub empty_file : parsed_costs 1 1 [] ≡ Err 0
+pub empty_file : parsed_costs 1 1 [] ≡ Err (cost.Syntax 0)
 empty_file = refl
 
-pub other_bricks : parsed_costs 1 1 (codes "2 1 q 0 0 0") ≡ Err 0
+pub other_bricks : parsed_costs 1 1 (codes "2 1 q 0 0 0") ≡ Err (cost.Syntax 0)
 other_bricks = refl
 
-pub other_columns : parsed_costs 1 1 (codes "1 2 q 0 0 0") ≡ Err 2
+pub other_columns : parsed_costs 1 1 (codes "1 2 q 0 0 0") ≡ Err (cost.Syntax 2)
 other_columns = refl
 
-pub capital_letter : parsed_costs 1 1 (codes "1 1 Q 0 0 0") ≡ Err 4
+pub capital_letter : parsed_costs 1 1 (codes "1 1 Q 0 0 0") ≡ Err (cost.Syntax 4)
 capital_letter = refl
 
-pub two_numbers : parsed_costs 1 1 (codes "1 1 q 0 0") ≡ Err 9
+pub two_numbers : parsed_costs 1 1 (codes "1 1 q 0 0") ≡ Err (cost.Syntax 9)
 two_numbers = refl
 
-pub no_breakpoint : parsed_costs 1 1 (codes "1 1 p 0") ≡ Err 6
+pub no_breakpoint : parsed_costs 1 1 (codes "1 1 p 0") ≡ Err (cost.Syntax 6)
 no_breakpoint = refl
 
-pub many_breakpoints : parsed_costs 1 1 (codes "1 1 p 1001 0 0") ≡ Err 6
+pub many_breakpoints : parsed_costs 1 1 (codes "1 1 p 1001 0 0") ≡ Err (cost.Syntax 6)
 many_breakpoints = refl
 
 -- the value of a number decides
@@ -51,34 +53,35 @@ three_relations = refl
 pub no_relation : parsed_relations 0 (codes "1 -0") ≡ Ok []
 no_relation = refl
 
-pub rows_of_none : parsed_relations 1 (codes "1 0") ≡ Err 2
+pub rows_of_none : parsed_relations 1 (codes "1 0") ≡ Err (relation.Syntax 2)
 rows_of_none = refl
 
-pub one_short : parsed_relations 2 (codes "1 2 = ") ≡ Err 6
+pub one_short : parsed_relations 2 (codes "1 2 = ") ≡ Err (relation.Syntax 6)
 one_short = refl
 
-pub one_too_many : parsed_relations 1 (codes "1 1 = =") ≡ Err 6
+pub one_too_many : parsed_relations 1 (codes "1 1 = =") ≡ Err (relation.Syntax 6)
 one_too_many = refl
 
-pub another_sign : parsed_relations 1 (codes "1 1 <=") ≡ Err 4
+pub another_sign : parsed_relations 1 (codes "1 1 <=") ≡ Err (relation.Syntax 4)
 another_sign = refl
 
-pub token_after : parsed_costs 1 1 (codes "1 1 q 0 0 0 q") ≡ Err 12
+pub token_after : parsed_costs 1 1 (codes "1 1 q 0 0 0 q") ≡ Err (cost.Syntax 12)
 token_after = refl
 
 -- 2 ^ 62 is the largest number
-pub largest_number : parsed_costs 1 1 (codes "1 1 q 0 -4611686018427387904 0")
-    ≡ Ok (Quadratic (pos 0) (negsuc 4611686018427387903) (pos 0) ∷ [])
+pub largest_number : parsed_costs 1 1 (codes "1 1 q 0 0 -4611686018427387904")
+    ≡ Ok (Quadratic (pos 0) (pos 0) (negsuc 4611686018427387903) ∷ [])
 largest_number = refl
 
-pub larger_number : parsed_costs 1 1 (codes "1 1 q 0 4611686018427387905 0") ≡ Err 8
+pub larger_number : parsed_costs 1 1 (codes "1 1 q 0 0 4611686018427387905") ≡ Err (cost.Syntax 10)
 larger_number = refl
 
 -- the value of a count decides, and it has no minus sign
-pub long_count : parsed_costs 1 1 (codes "+0001 01 p +0001 0 0") ≡ Ok (Points (record { at = pos 0; value = pos 0 } ∷ []) ∷ [])
+pub long_count : parsed_costs 1 1 (codes "01 +001 p 002 0 0 1 1")
+    ≡ Ok (Points (record { at = pos 0; value = pos 0 } ∷ record { at = pos 1; value = pos 1 } ∷ []) ∷ [])
 long_count = refl
 
-pub no_count : parsed_costs 1 1 (codes "1 1 p -1") ≡ Err 6
+pub no_count : parsed_costs 1 1 (codes "-1 1 q 0 0 0") ≡ Err (cost.Syntax 0)
 no_count = refl
 
 -- ---- the files of a program of two bricks with two columns each, one linking row and one brick row

@@ -3,12 +3,11 @@ use Rattle.std.specs.Prelude.{◌≡◌, ℕ, ◌*◌, ◌^◌, List, cond, Resu
 use Rattle.fold_theory.specs.declared.Cost.{Cost}
 use Rattle.fold_theory.specs.declared.Cost.TheVariants.{Quadratic, Points}
 use Rattle.fold_theory.specs.declared.Breakpoint.{Breakpoint}
-use Rattle.mat_files.specs.declared.fault.FaultKind.{FaultKind}
-use Rattle.mat_files.specs.declared.fault.FaultKind.TheVariants as kind
-use Rattle.mat_files.specs.declared.fault.TokenFault.{TokenFault}
+use Rattle.mat_files.specs.declared.FaultKind.{FaultKind}
+use Rattle.mat_files.specs.declared.FaultKind.TheVariants as kind
+use Rattle.mat_files.specs.declared.TokenFault.{TokenFault}
 use Rattle.mat_files.specs.Tokens.{Token, Left, and_then}
 use Rattle.mat_files.specs.Reading.{Read, refused, next_token, next_number, next_count, repeated, only}
-use Rattle.fold_files.specs.Places.{placed}
 use Rattle.fold_files.specs.declared.fault.CostFileFault.{CostFileFault}
 use Rattle.fold_files.specs.declared.fault.CostFileFault.TheVariants.{Syntax, Memory}
 
@@ -40,32 +39,29 @@ cost_after t left =
 abbrev pub next_cost : Left → Read Cost
 next_cost left = and_then (next_token left) (λ t. cost_after t.0 t.1)
 
--- the counts n and t, and the costs of n bricks of t columns, brick by brick
+-- the counts n and t, and then the costs of n bricks of t columns, brick by brick
 abbrev pub next_costs : ℕ → ℕ → Left → Read (List Cost)
 next_costs n t left =
     and_then (next_count n n kind.TooMany left) (λ bricks. and_then (next_count t t kind.TooMany bricks.1) (λ cols.
     repeated next_cost (n * t) cols.1))
 
+-- of a fault its place alone is told, and whether memory ran out
+abbrev pub cost_file_fault_of : ℕ → FaultKind → CostFileFault
+cost_file_fault_of at kind.Memory = Memory
+cost_file_fault_of at k = Syntax at
+
+abbrev pub cost_file_fault : TokenFault → CostFileFault
+cost_file_fault f = cost_file_fault_of f.at f.kind
+
+abbrev pub cost_answer : {A : Type 0} → Result A TokenFault → Result A CostFileFault
+cost_answer (Ok a) = Ok a
+cost_answer (Err f) = Err (cost_file_fault f)
+
 -- the costs that the bytes spell, or the place of the first token that is refused: the end where they end early
-abbrev pub parsed_costs : ℕ → ℕ → List ℕ → Result (List Cost) ℕ
-parsed_costs n t bytes = placed (only (next_costs n t) bytes)
+abbrev pub parsed_costs : ℕ → ℕ → List ℕ → Result (List Cost) CostFileFault
+parsed_costs n t bytes = cost_answer (only (next_costs n t) bytes)
 
--- the fault at a place, or want of memory
-abbrev pub cost_fault_of : ℕ → FaultKind → CostFileFault
-cost_fault_of at kind.Word = Syntax at
-cost_fault_of at kind.NotNumber = Syntax at
-cost_fault_of at kind.NoBound = Syntax at
-cost_fault_of at kind.TooBig = Syntax at
-cost_fault_of at kind.TooMany = Syntax at
-cost_fault_of at (kind.Size got from to) = Syntax at
-cost_fault_of at kind.EndsEarly = Syntax at
-cost_fault_of at kind.Extra = Syntax at
-cost_fault_of at kind.Memory = Memory
-
-abbrev pub cost_fault : TokenFault → CostFileFault
-cost_fault f = cost_fault_of f.at f.kind
-
--- the fault is at the place that reading gives; want of memory may come at any time
-abbrev pub IsCostFileFault : {A : Type 0} → Result A ℕ → CostFileFault → Type 0
-IsCostFileFault read (Syntax at) = read ≡ Err at
+-- the fault is that of reading; want of memory may come at any time
+abbrev pub IsCostFileFault : {A : Type 0} → Result A CostFileFault → CostFileFault → Type 0
 IsCostFileFault read Memory = Unit {0}
+IsCostFileFault read f = read ≡ Err f

@@ -1,4 +1,3 @@
-pub mod Places
 pub mod CostText
 pub mod RelationText
 pub mod Reading

@@ -16,11 +16,13 @@ use Rattle.fold_program.specs.declared.FileKind.TheVariants as file
 use Rattle.fold_program.specs.Files.{suffix_of}
 use Rattle.fold_program.specs.Parts.{PartsValue, program_of, related}
 use Rattle.fold_program.specs.Refusals.{program_refusal}
+use Rattle.fold_files.specs.declared.fault.CostFileFault.{CostFileFault}
+use Rattle.fold_files.specs.declared.fault.RelationFault.{RelationFault}
 use Rattle.fold_files.specs.declared.fault.ReadFault.{ReadFault}
 use Rattle.fold_files.specs.declared.fault.ReadFault.TheVariants as read
 use Rattle.fold_files.specs.CostText.{parsed_costs}
 use Rattle.fold_files.specs.RelationText.{parsed_relations}
-use Rattle.fold_files.specs.Faults.{refusal_fault}
+use Rattle.fold_files.specs.Faults.{costs_fault, relations_fault, refusal_fault}
 
 -- the bytes of a file of at most so many
 abbrev pub bytes_of : List File → List ℕ → FileKind → ℕ → Result (List ℕ) ReadFault
@@ -48,18 +50,18 @@ abbrev pub matrix_of : List File → List ℕ → FileKind → Shape → Result 
 matrix_of files prefix kind shape =
     and_then (bytes_of files prefix kind (2 ^ 26)) (λ bytes. as_form kind (parsed_matrix shape bytes))
 
-abbrev pub as_costs : Result (List Cost) ℕ → Result (List Cost) ReadFault
+abbrev pub as_costs : Result (List Cost) CostFileFault → Result (List Cost) ReadFault
 as_costs (Ok cs) = Ok cs
-as_costs (Err at) = Err (read.Costs at)
+as_costs (Err f) = Err (costs_fault f)
 
 -- the costs of n bricks of t columns in the cost file
 abbrev pub costs_of : List File → List ℕ → ℕ → ℕ → Result (List Cost) ReadFault
 costs_of files prefix n t =
     and_then (bytes_of files prefix file.Costs (2 ^ 26)) (λ bytes. as_costs (parsed_costs n t bytes))
 
-abbrev pub as_relations : Result (List Relation) ℕ → Result (List Relation) ReadFault
+abbrev pub as_relations : Result (List Relation) RelationFault → Result (List Relation) ReadFault
 as_relations (Ok rs) = Ok rs
-as_relations (Err at) = Err (read.Relations at)
+as_relations (Err f) = Err (relations_fault f)
 
 -- the relations of r linking rows: those in their file where it is asked for, and else all are equations
 abbrev pub relations_of : List File → List ℕ → Bool → ℕ → Result (List Relation) ReadFault

@@ -1,16 +1,17 @@
 //! Reading cost files.
 
-ghost use Rattle.std.specs.Prelude.{◌≡◌, ◌≤◌, ◌*◌, ◌^◌, Ok, MatchResult, IfOk, All, IsTrue, length};
-ghost use Rattle.lattice_theory.specs.Vectors.{is_bounded};
+ghost use Rattle.std.specs.Prelude.{◌≡◌, ◌≤◌, ◌*◌, Ok, MatchResult, IfOk, All, length};
+ghost use Rattle.mat_files.specs.Reading.{Gives, IsTokenFault, repeated, only};
 ghost use Rattle.convex_costs.specs.Bounds.{IsBoundedPoint, AreBounded};
-ghost use Rattle.mat_files.specs.Reading.{Gives, IsTokenFault, next_number, repeated, only};
-ghost use Rattle.fold_files.specs.CostText.{next_breakpoint, next_quadratic, next_points, next_cost, next_costs};
-ghost use Rattle.fold_files.specs.CostText.{parsed_costs, IsCostFileFault};
+ghost use Rattle.fold_files.specs.CostText.{next_breakpoint, next_quadratic, next_points, next_cost, next_costs, parsed_costs, IsCostFileFault};
 
 use crate::fault::CostFileFault;
 use convex_costs::{Breakpoint, Breakpoints, Cost};
 use mat_files::{FaultKind, Scanner, TokenFault};
 use std::alloc::Global;
+
+/// The largest absolute value of a number of a cost.
+const LARGEST: u64 = 1 << 62;
 
 /// The costs that a cost file holds, for `n` bricks of `t` columns, brick by brick and column by column.
 ///
@@ -33,10 +34,8 @@ pub fn parse_costs(alloc: Global, bytes: &[u8], n: u32, t: u32) -> Result<Vec<Co
 
 /// The costs that are all that the bytes spell.
 fn all_costs(alloc: Global, bytes: &[u8], n: u32, t: u32) -> Result<Vec<Cost>, TokenFault>
-    requires n { n ≤ 10000 }
-    requires t { t ≤ 32 }
-    ensures read { MatchResult result (λ cs. only (next_costs n t) bytes.now ≡ Ok cs.items)
-        (IsTokenFault (only (next_costs n t) bytes.now)) }
+    requires { n * t ≤ 320000 }
+    ensures read { MatchResult result (λ cs. only (next_costs n t) bytes.now ≡ Ok cs.items) (IsTokenFault (only (next_costs n t) bytes.now)) }
     ensures bounded { IfOk result (λ cs. All AreBounded cs.items) }
     ensures many { IfOk result (λ cs. length cs.items ≡ n * t) }
 {
@@ -80,9 +79,9 @@ fn quadratic(tokens: &mut Scanner<'_>) -> Result<Cost, TokenFault>
     ensures read { Gives (next_quadratic tokens.old) result tokens.new }
     ensures bounded { IfOk result AreBounded }
 {
-    let a = number(tokens)?;
-    let b = number(tokens)?;
-    let c = number(tokens)?;
+    let a = tokens.number(LARGEST)?;
+    let b = tokens.number(LARGEST)?;
+    let c = tokens.number(LARGEST)?;
     Ok(Cost::Quadratic { a, b, c })
 }
 
@@ -119,17 +118,9 @@ fn breakpoint(tokens: &mut Scanner<'_>) -> Result<Breakpoint, TokenFault>
     ensures read { Gives (next_breakpoint tokens.old) result tokens.new }
     ensures bounded { IfOk result IsBoundedPoint }
 {
-    let at = number(tokens)?;
-    let value = number(tokens)?;
+    let at = tokens.number(LARGEST)?;
+    let value = tokens.number(LARGEST)?;
     Ok(Breakpoint { at, value })
-}
-
-/// The next number, at most `2^62` in absolute value.
-fn number(tokens: &mut Scanner<'_>) -> Result<i64, TokenFault>
-    ensures read { Gives (next_number (2 ^ 62) tokens.old) result tokens.new }
-    ensures bounded { IfOk result (λ a. IsTrue (is_bounded a)) }
-{
-    tokens.number(1 << 62)
 }
 
 #[cfg(test)]

@@ -1,13 +1,12 @@
 //! Why files are refused.
 
 ghost use Rattle.std.specs.Prelude.{◌≡◌};
-ghost use Rattle.fold_files.specs.declared.fault.CostFileFault.TheVariants.{Memory};
 ghost use Rattle.fold_files.specs.Faults.{form_fault, load_fault};
 
 use fold_program::{FileKind, ProgramFault};
 use fold_shelf::LoadFault;
 use mat_files::{FaultKind, MatFault, TokenFault};
-use std::alloc::{AllocError, AllocFailed};
+use std::alloc::AllocError;
 use thiserror::Error;
 
 /// Why a cost file is refused.
@@ -23,14 +22,14 @@ pub enum CostFileFault {
 }
 
 impl From<TokenFault> for CostFileFault {
-    ghost use Rattle.fold_files.specs.CostText.{cost_fault};
+    ghost use Rattle.fold_files.specs.CostText.{cost_file_fault};
 
-    ghost from_gives = { λ f e. e ≡ cost_fault f };
+    ghost from_gives = { λ f e. e ≡ cost_file_fault f };
 
-    fn from(f: TokenFault) -> CostFileFault {
-        match f.kind {
+    fn from(fault: TokenFault) -> CostFileFault {
+        match fault.kind {
             FaultKind::Memory => CostFileFault::Memory,
-            _ => CostFileFault::Syntax { at: f.at },
+            _ => CostFileFault::Syntax { at: fault.at },
         }
     }
 }
@@ -52,10 +51,10 @@ impl From<TokenFault> for RelationFault {
 
     ghost from_gives = { λ f e. e ≡ relation_fault f };
 
-    fn from(f: TokenFault) -> RelationFault {
-        match f.kind {
+    fn from(fault: TokenFault) -> RelationFault {
+        match fault.kind {
             FaultKind::Memory => RelationFault::Memory,
-            _ => RelationFault::Syntax { at: f.at },
+            _ => RelationFault::Syntax { at: fault.at },
         }
     }
 }

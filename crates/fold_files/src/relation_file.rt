@@ -1,8 +1,8 @@
 //! Reading relation files.
 
 ghost use Rattle.std.specs.Prelude.{◌≡◌, Ok, MatchResult, IfOk, length};
-ghost use Rattle.mat_files.specs.Reading.{Gives, IsTokenFault, next_by, repeated, only};
-ghost use Rattle.fold_files.specs.RelationText.{relation_at, next_relations, parsed_relations, IsRelationFault};
+ghost use Rattle.mat_files.specs.Reading.{Gives, IsTokenFault, repeated, only};
+ghost use Rattle.fold_files.specs.RelationText.{next_relation, next_relations, parsed_relations, IsRelationFault};
 
 use crate::fault::RelationFault;
 use fold_program::Relation;
@@ -23,8 +23,7 @@ pub fn parse_relations(alloc: Global, bytes: &[u8], r: u32) -> Result<Vec<Relati
 
 /// The relations that are all that the bytes spell.
 fn all_relations(alloc: Global, bytes: &[u8], r: u32) -> Result<Vec<Relation>, TokenFault>
-    ensures read { MatchResult result (λ rs. only (next_relations r) bytes.now ≡ Ok rs.items)
-        (IsTokenFault (only (next_relations r) bytes.now)) }
+    ensures read { MatchResult result (λ rs. only (next_relations r) bytes.now ≡ Ok rs.items) (IsTokenFault (only (next_relations r) bytes.now)) }
     ensures many { IfOk result (λ rs. length rs.items ≡ r) }
 {
     let mut tokens = Scanner::new(bytes);
@@ -41,8 +40,8 @@ fn relations(
     tokens: &mut Scanner<'_>,
     count: u32,
 ) -> Result<Vec<Relation>, TokenFault>
-    ensures read { MatchResult result (λ rs. repeated (next_by relation_at) count tokens.old ≡ Ok (rs.items, tokens.new))
-        (IsTokenFault (repeated (next_by relation_at) count tokens.old)) }
+    ensures read { MatchResult result (λ rs. repeated next_relation count tokens.old ≡ Ok (rs.items, tokens.new))
+        (IsTokenFault (repeated next_relation count tokens.old)) }
     ensures many { IfOk result (λ rs. length rs.items ≡ count) }
 {
     let mut relations = Vec::new(alloc);
@@ -54,7 +53,7 @@ fn relations(
 
 /// The next relation.
 fn relation(tokens: &mut Scanner<'_>) -> Result<Relation, TokenFault>
-    ensures { Gives (next_by relation_at tokens.old) result tokens.new }
+    ensures { Gives (next_relation tokens.old) result tokens.new }
 {
     let token = tokens.token()?;
     match token.text {

@@ -1,5 +1,5 @@
 -- The definitions at values worked by hand.
-use Rattle.std.specs.Prelude.{◌≡◌, List, [], ◌∷◌, ◌++◌, pos, neg_ℤ, Some, None, codes, replicate, refl}
+use Rattle.std.specs.Prelude.{◌≡◌, false, true, List, [], ◌∷◌, ◌++◌, pos, neg_ℤ, Some, None, codes, replicate, refl}
 use Rattle.std.specs.Fmt.{digits}
 use Rattle.fold_theory.specs.declared.Broken.TheVariants.{Below, Above, BrickRow, LinkRow}
 use Rattle.mat_files.specs.declared.fault.MatFault.TheVariants as mat
@@ -12,7 +12,7 @@ use Rattle.nfold_cli.specs.Texts.{point_text, at_byte, at_column, mat_fault_text
 abbrev point_and : List Word → List Word
 point_and rest = codes "point" ∷ rest
 
-pub point_with_a_prefix : form_of (point_and (codes "a_-./Z9" ∷ [])) ≡ Some (PointForm (codes "a_-./Z9"))
+pub point_with_a_prefix : form_of (point_and (codes "a_-./Z9" ∷ [])) ≡ Some (PointForm (codes "a_-./Z9") false)
 point_with_a_prefix = refl
 
 pub no_words : form_of [] ≡ None
@@ -60,7 +60,28 @@ limit_without_a_value = refl
 pub limit_twice : form_of (graver_and (codes "--max-basis" ∷ codes "8" ∷ codes "--max-basis" ∷ codes "8" ∷ [])) ≡ None
 limit_twice = refl
 
-pub check_with_a_prefix : form_of (codes "check" ∷ codes "t" ∷ []) ≡ Some (CheckForm (codes "t"))
+pub graver_with_relations : form_of (graver_and (codes "--rel" ∷ [])) ≡ None
+graver_with_relations = refl
+
+abbrev rel : Word
+rel = codes "--rel"
+
+pub point_with_relations : form_of (point_and (codes "t" ∷ rel ∷ [])) ≡ Some (PointForm (codes "t") true)
+point_with_relations = refl
+
+pub relations_twice : form_of (point_and (codes "t" ∷ rel ∷ rel ∷ [])) ≡ None
+relations_twice = refl
+
+pub relations_before_the_prefix : form_of (point_and (rel ∷ codes "t" ∷ [])) ≡ None
+relations_before_the_prefix = refl
+
+pub point_with_a_limit : form_of (point_and (codes "t" ∷ rel ∷ codes "--max-basis" ∷ codes "8" ∷ [])) ≡ None
+point_with_a_limit = refl
+
+pub check_with_relations : form_of (codes "check" ∷ codes "t" ∷ rel ∷ []) ≡ Some (CheckForm (codes "t") true)
+check_with_relations = refl
+
+pub check_with_a_prefix : form_of (codes "check" ∷ codes "t" ∷ []) ≡ Some (CheckForm (codes "t") false)
 check_with_a_prefix = refl
 
 pub no_form_yet : form_of (codes "solve" ∷ codes "t" ∷ []) ≡ None
@@ -69,7 +90,7 @@ no_form_yet = refl
 pub another_case : form_of (codes "Point" ∷ codes "t" ∷ []) ≡ None
 another_case = refl
 
-pub two_hundred_bytes : form_of (point_and (replicate 200 116 ∷ [])) ≡ Some (PointForm (replicate 200 116))
+pub two_hundred_bytes : form_of (point_and (replicate 200 116 ∷ [])) ≡ Some (PointForm (replicate 200 116) false)
 two_hundred_bytes = refl
 
 pub one_byte_too_many : form_of (point_and (replicate 201 116 ∷ [])) ≡ None

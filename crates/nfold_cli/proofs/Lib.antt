@@ -1,7 +1,10 @@
+pub mod KnownValues
+pub mod KnownEndings
 pub mod PrefixLaws
-mod ReadLaws
-mod AnswerLaws
-mod SayLaws
-mod EndingLaws
-mod KnownValues
-mod KnownEndings
+pub mod WordLaws
+pub mod EndingLaws
+pub mod AnswerLaws
+pub mod ReadLaws
+pub mod CommandLaws
+pub mod GiveLaws
+pub mod RunLaws

@@ -1,35 +1,27 @@
--- How a run ends, by its words and the files: its status and its text.
-use Rattle.std.specs.Prelude.{◌≡◌, ℕ, ◌⊎◌, List, ◌++◌, Option, Some, None, Result, Ok, Err, codes}
-use Rattle.lattice_theory.specs.Vectors.{Vector}
-use Rattle.lattice_theory.specs.Matrices.{Matrix}
-use Rattle.lattice_theory.specs.Lattices.{kernel}
-use Rattle.lattice_theory.specs.BasisLimits.{ExceedsBasis, IsBasisWithin}
-use Rattle.fold_theory.specs.Programs.{Program, Bricks, cost}
-use Rattle.fold_theory.specs.declared.Broken.{Broken}
-use Rattle.fold_theory.specs.Breaks.{first_break}
+-- How a run ends, by what its words ask for: its status, its text, and the file that it stores before.
+use Rattle.std.specs.Prelude.{◌≡◌, ℕ, List, [], ◌++◌, Option, None, Result, Ok, Err, codes}
 use Rattle.fold_shelf.specs.Outside.{File}
-use Rattle.mat_files.specs.MatrixText.{matrix_text}
+use Rattle.convex_costs.specs.declared.CostFault.{CostFault}
 use Rattle.fold_program.specs.declared.FileKind.{FileKind}
 use Rattle.fold_program.specs.declared.FileKind.TheVariants as file
+use Rattle.fold_program.specs.declared.ProgramFault.{ProgramFault}
+use Rattle.fold_program.specs.declared.ProgramFault.TheVariants as program
 use Rattle.fold_program.specs.Files.{suffix_of}
-use Rattle.fold_program.specs.Refusals.{Refusal, Crossed, CostAt, CostSum}
-use Rattle.fold_files.specs.Reading.{Stop, Absent, TooLong, Form, Syntax, Refused, program_in, point_in, plain_in, certificate_in}
-use Rattle.certificate.specs.CertificateText.{parsed_certificate}
-use Rattle.cert_checker.specs.declared.answer.Check.{Check}
-use Rattle.cert_checker.specs.declared.answer.Check.TheVariants as check
-use Rattle.cert_checker.specs.Answers.{checked}
+use Rattle.fold_files.specs.declared.ReadFault.{ReadFault}
+use Rattle.fold_files.specs.declared.ReadFault.TheVariants as read
 use Rattle.nfold_cli.specs.declared.status.Status.{Status}
 use Rattle.nfold_cli.specs.declared.status.Status.TheVariants as status
-use Rattle.nfold_cli.specs.Texts.{at_byte, at_column, mat_fault_text, cost_fault_text, input_text, read_text, cert_fault_text, basis_limit_text, usage_text, point_text, check_text}
-use Rattle.nfold_cli.specs.Words.{Word, FormValue, PointForm, GraverForm, CheckForm, form_of}
+use Rattle.nfold_cli.specs.Texts.{at_byte, at_column, mat_fault_text, cost_fault_text, input_text, read_text, memory_text}
 
--- the status that a run answers, and the text that it writes
+-- the status that a run answers, the text that it writes, and the file that it stores before its text
 pub record Ending : Type 0 where
   pub status : Status
   pub text : List ℕ
+  pub stored : Option File
 
+-- nothing is stored
 abbrev pub ending : Status → List ℕ → Ending
-ending s text = record { status = s; text = text }
+ending s text = record { status = s; text = text; stored = None }
 
 -- the number with which the program ends
 abbrev pub status_number : Status → ℕ
@@ -42,94 +34,75 @@ status_number status.ReadFault = 5
 status_number status.WriteFault = 6
 status_number status.Memory = 7
 
+-- a text was made for the output
+abbrev pub IsWritten : Status → Type 0
+IsWritten status.Done = Unit {0}
+IsWritten status.No = Unit {0}
+IsWritten s = ⊥
+
+-- an answer after which nothing was stored, nor written on the output
+abbrev pub IsRefusal : Status → Type 0
+IsRefusal status.Usage = Unit {0}
+IsRefusal status.Input = Unit {0}
+IsRefusal status.Limit = Unit {0}
+IsRefusal status.ReadFault = Unit {0}
+IsRefusal s = ⊥
+
 -- ---- refusals
 
 -- a file is refused
 abbrev pub input_ending : List ℕ → FileKind → List ℕ → Ending
 input_ending prefix kind what = ending status.Input (input_text (prefix ++ suffix_of kind) what)
 
--- the program as a whole is refused
-abbrev pub refusal_ending : List ℕ → Refusal → Ending
-refusal_ending prefix (Crossed i j) = input_ending prefix file.Upper (at_column (codes "crossed") i j)
-refusal_ending prefix (CostAt i j f) = input_ending prefix file.Costs (cost_fault_text i j f)
-refusal_ending prefix CostSum = input_ending prefix file.Costs (codes "cost-sum")
-
 -- a file could not be read
 abbrev pub read_ending : List ℕ → Ending
 read_ending name = ending status.ReadFault (read_text name)
 
--- reading stops
-abbrev pub stop_ending : List ℕ → Stop → Ending
-stop_ending prefix (Absent kind) = read_ending (prefix ++ suffix_of kind)
-stop_ending prefix (TooLong kind) = input_ending prefix kind (codes "too-long")
-stop_ending prefix (Form kind f) = input_ending prefix kind (mat_fault_text f)
-stop_ending prefix (Syntax at) = input_ending prefix file.Costs (at_byte (codes "syntax") at)
-stop_ending prefix (Refused r) = refusal_ending prefix r
+-- which file makes that the program is refused as a whole
+abbrev pub program_fault_file : ProgramFault → FileKind
+program_fault_file (program.Shape kind) = kind
+program_fault_file (program.CrossedBounds i j) = file.Upper
+program_fault_file (program.Cost i j f) = file.Costs
+program_fault_file program.CostSumTooLarge = file.Costs
+program_fault_file program.Memory = file.Plain
 
--- ---- the commands
+-- and what is wrong with it; nothing where memory ran out
+abbrev pub program_fault_text : ProgramFault → List ℕ
+program_fault_text (program.Shape kind) = codes "shape"
+program_fault_text (program.CrossedBounds i j) = at_column (codes "crossed") i j
+program_fault_text (program.Cost i j f) = cost_fault_text i j f
+program_fault_text program.CostSumTooLarge = codes "cost-sum"
+program_fault_text program.Memory = []
 
--- what this makes of what was read, or the refusal
-abbrev pub or_stop : {A : Type 0} → List ℕ → Result A Stop → (A → Ending) → Ending
-or_stop prefix (Err stop) f = stop_ending prefix stop
-or_stop prefix (Ok a) f = f a
+-- which file a fault of reading is about
+abbrev pub fault_file : ReadFault → FileKind
+fault_file (read.Shelf kind) = kind
+fault_file (read.TooLong kind) = kind
+fault_file (read.Form kind f) = kind
+fault_file (read.Costs at) = file.Costs
+fault_file (read.Relations at) = file.Relations
+fault_file (read.Program f) = program_fault_file f
+fault_file read.Memory = file.Plain
 
-abbrev pub broken_status : Option Broken → Status
-broken_status None = status.Done
-broken_status (Some b) = status.No
+-- and what is wrong with it; nothing where it could not be read, or memory ran out
+abbrev pub fault_text : ReadFault → List ℕ
+fault_text (read.Shelf kind) = []
+fault_text (read.TooLong kind) = codes "too-long"
+fault_text (read.Form kind f) = mat_fault_text f
+fault_text (read.Costs at) = at_byte (codes "syntax") at
+fault_text (read.Relations at) = at_byte (codes "syntax") at
+fault_text (read.Program f) = program_fault_text f
+fault_text read.Memory = []
 
--- whether the point is feasible, and its cost
-abbrev pub verdict_ending : Program → Bricks → Ending
-verdict_ending p x = ending (broken_status (first_break p x)) (point_text (first_break p x) (cost p x))
+-- reading stops by this fault
+abbrev pub fault_ending : List ℕ → ReadFault → Ending
+fault_ending prefix (read.Shelf kind) = read_ending (prefix ++ suffix_of kind)
+fault_ending prefix read.Memory = ending status.Memory memory_text
+fault_ending prefix f = input_ending prefix (fault_file f) (fault_text f)
 
--- of the point of a program in the files
-abbrev pub point_ending : List File → Word → Ending
-point_ending files prefix =
-    or_stop prefix (program_in files prefix) (λ p. or_stop prefix (point_in files prefix p) (λ x. verdict_ending p x.rows))
+-- ---- what was read, or why nothing was
 
--- the kernel of the matrix's slack basis as a matrix file, or that the basis passes its limit
-abbrev pub IsKernelEnding : Matrix → ℕ → Ending → Type 0
-IsKernelEnding m limit e =
-    (ExceedsBasis m limit × (e ≡ ending status.Limit basis_limit_text))
-    ⊎ ((basis : List Vector) × IsBasisWithin m limit basis
-    × (e ≡ ending status.Done (matrix_text (record { cols = m.cols; rows = kernel m.cols basis }))))
-
--- what holds of the ending on what was read, or the ending is the refusal
-abbrev pub IsOrStop : {A : Type 0} → List ℕ → Result A Stop → (A → Ending → Type 0) → Ending → Type 0
-IsOrStop prefix (Err stop) Ends e = e ≡ stop_ending prefix stop
-IsOrStop prefix (Ok a) Ends e = Ends a e
-
--- of the matrix by itself in the files
-abbrev pub IsGraverEnding : List File → Word → ℕ → Ending → Type 0
-IsGraverEnding files prefix limit e = IsOrStop prefix (plain_in files prefix) (λ m. IsKernelEnding m limit) e
-
-abbrev pub checked_status : Check → Status
-checked_status (check.Yes v) = status.Done
-checked_status (check.No r) = status.No
-
--- whether the checker says yes, and its line
-abbrev pub checked_ending : Check → Ending
-checked_ending a = ending (checked_status a) (check_text a)
-
--- whether the certificate that the bytes spell shows what it claims of the program
-abbrev pub certificate_ending : List ℕ → Program → List ℕ → Ending
-certificate_ending prefix p bytes =
-    elim (parsed_certificate bytes) [
-      | Err f ↦ input_ending prefix file.Cert (cert_fault_text f)
-      | Ok c ↦ checked_ending (checked p c)
-    ]
-
--- of the program and the certificate in the files
-abbrev pub check_ending : List File → Word → Ending
-check_ending files prefix =
-    or_stop prefix (program_in files prefix) (λ p. or_stop prefix (certificate_in files prefix) (λ bytes. certificate_ending prefix p bytes))
-
--- the ending of a form over these files
-abbrev pub IsFormEnding : Option FormValue → List File → Ending → Type 0
-IsFormEnding None files e = e ≡ ending status.Usage usage_text
-IsFormEnding (Some (PointForm prefix)) files e = e ≡ point_ending files prefix
-IsFormEnding (Some (GraverForm prefix limit)) files e = IsGraverEnding files prefix limit e
-IsFormEnding (Some (CheckForm prefix)) files e = e ≡ check_ending files prefix
-
--- the ending of these words over these files
-abbrev pub IsEnding : List Word → List File → Ending → Type 0
-IsEnding words = IsFormEnding (form_of words)
+-- the ending is one on what was read, or the refusal
+abbrev pub IsEndingOf : {A : Type 0} → List ℕ → (A → Ending → Type 0) → Result A ReadFault → Ending → Type 0
+IsEndingOf prefix Ends (Err f) e = e ≡ fault_ending prefix f
+IsEndingOf prefix Ends (Ok a) e = Ends a e

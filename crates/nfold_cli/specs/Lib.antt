@@ -1,5 +1,9 @@
 pub mod Words
 pub mod Texts
 pub mod Endings
+pub mod PointCommand
+pub mod GraverCommand
+pub mod CheckCommand
+pub mod Forms
 pub mod Running
 pub mod Answers

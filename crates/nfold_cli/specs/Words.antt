@@ -1,11 +1,12 @@
 -- The words of the command line: which of the forms they are.
-use Rattle.std.specs.Prelude.{ℕ, ◌≤◌, nat_eq, nat_le, Bool, ◌&&◌, ◌||◌, not, List, [], ◌∷◌, length, slice_index, cond, Option, Some, None, codes}
+use Rattle.std.specs.Prelude.{ℕ, ◌≤◌, nat_eq, nat_le, Bool, true, false, ◌&&◌, ◌||◌, not, List, [], ◌∷◌, length, slice_index, cond, Option, Some, None, is_none, unwrap_or, codes}
 use Rattle.std.specs.Char.{is_ascii_alphanumeric}
 use Rattle.std.specs.Cmp.Lexicographic.{pointwise}
 use Rattle.std.specs.List.{list_all}
 use Rattle.mat_files.specs.Tokens.{is_digits, digits_value}
 use Rattle.nfold_cli.specs.declared.words.Form.{Form}
 use Rattle.nfold_cli.specs.declared.words.Form.TheVariants.{Point, Graver, Check}
+use Rattle.nfold_cli.specs.declared.words.Options.{Options}
 
 -- the bytes of one word
 abbrev pub Word : Type 0
@@ -26,15 +27,15 @@ number_within from to w =
 
 -- a form of the command line, with what it is about
 pub data FormValue : Type 0 where
-  PointForm : Word → FormValue
+  PointForm : Word → Bool → FormValue
   GraverForm : Word → ℕ → FormValue
-  CheckForm : Word → FormValue
+  CheckForm : Word → Bool → FormValue
 
 -- what a form of the code says
 abbrev pub form_value : Form → FormValue
-form_value (Point prefix) = PointForm prefix.now
+form_value (Point prefix relations) = PointForm prefix.now relations
 form_value (Graver prefix limit) = GraverForm prefix.now limit
-form_value (Check prefix) = CheckForm prefix.now
+form_value (Check prefix relations) = CheckForm prefix.now relations
 
 -- how many elements a slack basis may have
 abbrev pub IsBasisLimit : ℕ → Type 0
@@ -42,37 +43,46 @@ IsBasisLimit limit = (1 ≤ limit) × (limit ≤ 2000)
 
 -- the numbers in a form are in their ranges
 abbrev pub HasLimits : Form → Type 0
-HasLimits (Point prefix) = Unit {0}
+HasLimits (Point prefix relations) = Unit {0}
 HasLimits (Graver prefix limit) = IsBasisLimit limit
-HasLimits (Check prefix) = Unit {0}
+HasLimits (Check prefix relations) = Unit {0}
 
--- a form of one word, which is a prefix
-abbrev pub prefix_form : (Word → FormValue) → List Word → Option FormValue
-prefix_form form [] = None
-prefix_form form (p ∷ []) = cond (is_prefix p) (Some (form p)) None
-prefix_form form (p ∷ q ∷ more) = None
+-- the word is this one
+abbrev pub is_word : Word → List ℕ → Bool
+is_word w text = pointwise nat_eq w text
 
--- the limit of `--max-basis B`, and 500 where there is no such option
-abbrev pub basis_limit : List Word → Option ℕ
-basis_limit [] = Some 500
-basis_limit (option ∷ []) = None
-basis_limit (option ∷ value ∷ []) = cond (pointwise nat_eq option (codes "--max-basis")) (number_within 1 2000 value) None
-basis_limit (option ∷ value ∷ other ∷ more) = None
+-- the options in these words, added to those before: `--rel`, and `--max-basis` with a number of 1 to 2,000; each comes
+-- at most once
+abbrev pub options_in : Options → List Word → Option Options
+options_in o [] = Some o
+options_in o (w ∷ []) = cond (is_word w (codes "--rel") && not o.relations) (Some (record o { relations = true })) None
+options_in o (w ∷ v ∷ ws) =
+    cond (is_word w (codes "--rel") && not o.relations) (options_in (record o { relations = true }) (v ∷ ws))
+    (cond (is_word w (codes "--max-basis") && is_none o.basis)
+    (elim (number_within 1 2000 v) [ None ↦ None | Some n ↦ options_in (record o { basis = Some n }) ws ]) None)
 
--- a form about a prefix and a limit
-abbrev pub with_limit : (Word → ℕ → FormValue) → Word → Option ℕ → Option FormValue
-with_limit form prefix None = None
-with_limit form prefix (Some limit) = Some (form prefix limit)
+-- no option
+abbrev pub no_options : Options
+no_options = record { basis = None; relations = false }
 
--- `graver M [--max-basis B]`
-abbrev pub graver_form : List Word → Option FormValue
-graver_form [] = None
-graver_form (m ∷ options) = cond (is_prefix m) (with_limit GraverForm m (basis_limit options)) None
+-- the form, where these options may stand in it
+abbrev pub allowed : Bool → FormValue → Option FormValue
+allowed may form = cond may (Some form) None
 
--- the form that the words are: `point P`, `graver M [--max-basis B]` or `check P`
+-- the form of a command with this prefix and these options: `point P [--rel]`, `graver M [--max-basis B]` and
+-- `check P [--rel]`; a basis has at most 500 elements where no option says it
+abbrev pub command_form : Word → Word → Options → Option FormValue
+command_form command prefix o =
+    cond (is_word command (codes "point")) (allowed (is_none o.basis) (PointForm prefix o.relations))
+    (cond (is_word command (codes "graver")) (allowed (not o.relations) (GraverForm prefix (unwrap_or o.basis 500)))
+    (cond (is_word command (codes "check")) (allowed (is_none o.basis) (CheckForm prefix o.relations)) None))
+
+abbrev pub form_with : Word → Word → Option Options → Option FormValue
+form_with command prefix None = None
+form_with command prefix (Some o) = command_form command prefix o
+
+-- the form that the words are: a command, a prefix and options
 abbrev pub form_of : List Word → Option FormValue
 form_of [] = None
-form_of (command ∷ rest) =
-    cond (pointwise nat_eq command (codes "point")) (prefix_form PointForm rest)
-    (cond (pointwise nat_eq command (codes "graver")) (graver_form rest)
-    (cond (pointwise nat_eq command (codes "check")) (prefix_form CheckForm rest) None))
+form_of (command ∷ []) = None
+form_of (command ∷ prefix ∷ options) = cond (is_prefix prefix) (form_with command prefix (options_in no_options options)) None

@@ -3,7 +3,8 @@
 ghost use Rattle.std.specs.Prelude.{◌≡◌, List};
 ghost use Rattle.fold_shelf.specs.Outside.{File};
 ghost use Rattle.nfold_cli.specs.Words.{Word};
-ghost use Rattle.nfold_cli.specs.Endings.{Ending, IsEnding};
+ghost use Rattle.nfold_cli.specs.Endings.{Ending};
+ghost use Rattle.nfold_cli.specs.Forms.{IsEnding};
 
 /// Words and files have at most one ending.
 pub fn one_ending()

@@ -1,8 +1,11 @@
 //! The top call of the program: its words, its texts and what it answers.
 #![tactic(auto)]
 
+mod answer;
 mod answering;
+mod commands;
 mod laws;
+mod refusals;
 mod running;
 mod status;
 mod texts;

@@ -1,8 +1,7 @@
 //! How a run ends.
 
 ghost use Rattle.std.specs.Prelude.{◌≡◌, IsTrue, IsFalse};
-ghost use Rattle.nfold_cli.specs.Endings.{status_number};
-ghost use Rattle.nfold_cli.specs.Running.{IsWritten};
+ghost use Rattle.nfold_cli.specs.Endings.{status_number, IsWritten};
 
 /// The answer of a run, in the order of the numbers with which the program ends, from 0.
 #[derive(Clone, Copy, Debug, PartialEq, Eq, Drop)]

@@ -1,7 +1,6 @@
 //! The words of the command line, without the program's own name, and the form that they are.
 
-ghost use Rattle.std.specs.Prelude.{◌≡◌, ◌≤◌, ◌&&◌, nat_eq, nat_le, length, map, cond, codes, Some, None, IfSome};
-ghost use Rattle.std.specs.Cmp.Lexicographic.{pointwise};
+ghost use Rattle.std.specs.Prelude.{◌≡◌, ◌≤◌, ◌&&◌, nat_le, length, map, cond, Some, None, IfSome};
 ghost use Rattle.std.specs.List.{list_all};
 ghost use Rattle.std.specs.Option.{option_map};
 ghost use Rattle.mat_files.specs.Tokens.{is_digit, is_digits};
@@ -22,16 +21,27 @@ const DEFAULT_BASIS: u32 = 500;
 const LARGEST_BASIS: u32 = 2_000;
 
 /// A form of the command line, with what it is about. The names of files begin with a prefix, 1 to 200 bytes,
-/// each a letter or digit of ASCII or one of `_`, `-`, `.` and `/`, the first not `-`.
+/// each a letter or digit of ASCII or one of `_`, `-`, `.` and `/`, the first not `-`. Options follow the prefix, in
+/// any order, each at most once.
 #[derive(Clone, Copy, Debug, PartialEq, Eq, Drop)]
 pub enum Form<'a> {
-    /// `point P`: whether the point is feasible, and its cost.
-    Point { prefix: &'a str },
+    /// `point P [--rel]`: whether the point is feasible, and its cost. With the option each linking row has the relation
+    /// in the file of relations, and else all are equations.
+    Point { prefix: &'a str, relations: bool },
     /// `graver M [--max-basis B]`: the kernel of the slack basis of a matrix, where the basis has at most this many
     /// elements, 1 to 2,000; 500 where no option says it.
     Graver { prefix: &'a str, limit: u32 },
-    /// `check P`: whether a certificate shows what it claims of a program, or which rule it breaks.
-    Check { prefix: &'a str },
+    /// `check P [--rel]`: whether a certificate shows what it claims of a program, or which rule it breaks.
+    Check { prefix: &'a str, relations: bool },
+}
+
+/// The options of a command.
+#[derive(Clone, Copy, Debug, PartialEq, Eq, Drop)]
+pub(crate) struct Options {
+    /// The value of `--max-basis`.
+    pub basis: Option<u32>,
+    /// Whether there is `--rel`.
+    pub relations: bool,
 }
 
 /// The form that the words are, and `None` where they are none.
@@ -39,86 +49,66 @@ pub fn form_of(words: &[Vec<u8>]) -> Option<Form<'_>>
     ensures form { option_map specs.form_value result ≡ specs.form_of (map (λ w. w.items) words.now) }
     ensures limits { IfSome result specs.HasLimits }
 {
-    let [command, rest @ ..] = words else {
+    let [command, word, rest @ ..] = words else {
         return None;
     };
-    if is_word(command, b"point") {
-        return point(rest);
+    let prefix = prefix(word.as_slice())?;
+    let none = Options {
+        basis: None,
+        relations: false,
+    };
+    let options = options_in(none, rest)?;
+    command_form(command, prefix, options)
+}
+
+/// The form of a command with this prefix and these options.
+fn command_form<'a>(command: &[u8], prefix: &'a str, options: Options) -> Option<Form<'a>>
+    requires { IfSome options.basis specs.IsBasisLimit }
+    ensures form { option_map specs.form_value result ≡ specs.command_form command.now prefix.now options }
+    ensures limits { IfSome result specs.HasLimits }
+{
+    let Options { basis, relations } = options;
+    if is_word(command, b"point") && basis.is_none() {
+        return Some(Form::Point { prefix, relations });
     }
-    if is_word(command, b"graver") {
-        return graver(rest);
+    if is_word(command, b"graver") && !relations {
+        let limit = basis.unwrap_or(DEFAULT_BASIS);
+        return Some(Form::Graver { prefix, limit });
     }
-    if is_word(command, b"check") {
-        return check(rest);
+    if is_word(command, b"check") && basis.is_none() {
+        return Some(Form::Check { prefix, relations });
     }
     None
 }
 
+/// The options in the words, added to those before; `None` where a word is no option, or one comes twice.
+fn options_in(options: Options, words: &[Vec<u8>]) -> Option<Options>
+    requires { IfSome options.basis specs.IsBasisLimit }
+    ensures options { result ≡ specs.options_in options (map (λ w. w.items) words.now) }
+    ensures limits { IfSome result (λ o. IfSome o.basis specs.IsBasisLimit) }
+{
+    match words {
+        [] => Some(options),
+        [word, rest @ ..] if is_word(word, b"--rel") && !options.relations => {
+            let options = Options {
+                relations: true,
+                ..options
+            };
+            options_in(options, rest)
+        }
+        [word, value, rest @ ..] if is_word(word, b"--max-basis") && options.basis.is_none() => {
+            let basis = Some(number_within(value, 1, LARGEST_BASIS)?);
+            options_in(Options { basis, ..options }, rest)
+        }
+        _ => None,
+    }
+}
+
 /// Whether the word has these bytes.
 fn is_word(word: &[u8], bytes: &[u8]) -> bool
-    ensures { result ≡ pointwise nat_eq word.now bytes.now }
+    ensures { result ≡ specs.is_word word.now bytes.now }
 {
     word == bytes
-}
-
-fn point(rest: &[Vec<u8>]) -> Option<Form<'_>>
-    ensures limits { IfSome result specs.HasLimits }
-    ensures form { option_map specs.form_value result ≡ specs.prefix_form specs.PointForm (map (λ w. w.items) rest.now) }
-{
-    match rest {
-        [word] => Some(Form::Point {
-            prefix: prefix(word.as_slice())?,
-        }),
-        _ => None,
-    }
-}
-
-fn check(rest: &[Vec<u8>]) -> Option<Form<'_>>
-    ensures form { option_map specs.form_value result ≡ specs.prefix_form specs.CheckForm (map (λ w. w.items) rest.now) }
-    ensures limits { IfSome result specs.HasLimits }
-{
-    match rest {
-        [word] => Some(Form::Check {
-            prefix: prefix(word.as_slice())?,
-        }),
-        _ => None,
-    }
-}
-
-fn graver(rest: &[Vec<u8>]) -> Option<Form<'_>>
-    ensures form { option_map specs.form_value result ≡ specs.graver_form (map (λ w. w.items) rest.now) }
-    ensures limits { IfSome result specs.HasLimits }
-{
-    let [word, options @ ..] = rest else {
-        return None;
-    };
-    Some(Form::Graver {
-        prefix: prefix(word.as_slice())?,
-        limit: basis_limit(options)?,
-    })
-}
-
-/// The limit of the option `--max-basis B`, or the default where there is no option.
-fn basis_limit(options: &[Vec<u8>]) -> Option<u32>
-    ensures limit { result ≡ specs.basis_limit (map (λ w. w.items) options.now) }
-    ensures range { IfSome result specs.IsBasisLimit }
-{
-    match options {
-        [] => Some(DEFAULT_BASIS),
-        [option, value] => limit_of(option, value),
-        _ => None,
-    }
-}
-
-/// The limit of this option with this value.
-fn limit_of(option: &[u8], value: &[u8]) -> Option<u32>
-    ensures limit { result ≡ cond (pointwise nat_eq option.now (codes "--max-basis")) (specs.number_within 1 2000 value.now) None }
-    ensures range { IfSome result specs.IsBasisLimit }
-{
-    if !is_word(option, b"--max-basis") {
-        return None;
-    }
-    number_within(value, 1, LARGEST_BASIS)
 }
 
 /// Whether the word is 1 to 9 digits.
@@ -192,34 +182,49 @@ pub(crate) mod tests {
     }
 
     #[test]
-    fn point_takes_one_prefix(rt: HostRuntime) -> Result<(), Fail> {
+    fn no_words_are_no_form(rt: HostRuntime) {
+        assert_eq!(rt; form_of(&[]), None);
+    }
+
+    #[test]
+    fn point_takes_a_prefix_and_at_most_one_option(rt: HostRuntime) -> Result<(), Fail> {
         let cases = [
-            ("point runs/t-1_a.b", Some("runs/t-1_a.b")),
+            ("point runs/t-1_a.b", Some(("runs/t-1_a.b", false))),
+            ("point t --rel", Some(("t", true))),
+            ("point t --rel --rel", None),
+            ("point --rel t", None),
+            ("point --rel", None),
+            ("point t --max-basis 5", None),
+            ("point t --rel --max-basis 5", None),
             ("point", None),
             ("point ", None),
             ("point -t", None),
             ("point t t", None),
             ("point t:t", None),
+            ("points t", None),
             ("solve t", None),
             ("", None),
         ];
-        for (line, prefix) in cases {
+        for (line, parts) in cases {
             let words = words_of(rt.alloc(), line)?;
-            let form = prefix.map(|prefix| Form::Point { prefix });
+            let form = parts.map(|(prefix, relations)| Form::Point { prefix, relations });
             assert_eq!(rt; form_of(&words), form, "at {line}");
         }
         Ok(())
     }
 
     #[test]
-    fn check_takes_one_prefix(rt: HostRuntime) -> Result<(), Fail> {
-        for (line, prefix) in [
-            ("check a/t", Some("a/t")),
+    fn check_takes_a_prefix_and_at_most_one_option(rt: HostRuntime) -> Result<(), Fail> {
+        for (line, parts) in [
+            ("check a/t", Some(("a/t", false))),
+            ("check t --rel", Some(("t", true))),
+            ("check t --rel --rel", None),
+            ("check t --max-basis 5", None),
             ("check", None),
             ("check t t", None),
         ] {
             let words = words_of(rt.alloc(), line)?;
-            let form = prefix.map(|prefix| Form::Check { prefix });
+            let form = parts.map(|(prefix, relations)| Form::Check { prefix, relations });
             assert_eq!(rt; form_of(&words), form, "at {line}");
         }
         Ok(())
@@ -239,6 +244,8 @@ pub(crate) mod tests {
             ("graver m --max-basis=5", None),
             ("graver m --max-basis", None),
             ("graver m --max-basis 5 --max-basis 5", None),
+            ("graver m --rel", None),
+            ("graver m --max-basis 5 --rel", None),
             ("graver --max-basis 5", None),
             ("graver", None),
         ];

@@ -7,13 +7,14 @@ use std::alloc::AllocError;
 use std::process::Abort;
 use std::test::Fail;
 
-/// A program of two bricks, a point of it, and a certificate that its first brick cannot meet its row.
-const FILES: [(&str, &str); 8] = [
+/// A program of two bricks with relations, a point of it, and a certificate that its first brick cannot meet its row.
+const FILES: [(&str, &str); 9] = [
     ("t.link.mat", "1 2\n1 0\n"),
     ("t.brick.mat", "1 2\n1 1\n"),
     ("t.lb", "2 2\n0 0\n0 0\n"),
     ("t.ub", "2 2\n4 4\n4 4\n"),
     ("t.rhs", "1 3\n3 4 4\n"),
+    ("t.rel", "1 1\n=\n"),
     ("t.cost", "2 2\nq 1 0 0\nq 0 0 0\nq 1 0 0\nq 0 0 0\n"),
     ("t.pt", "2 2\n1 3\n2 2\n"),
     (
@@ -174,12 +175,79 @@ fn a_refused_cost_is_named_with_its_column(rt: HostRuntime) -> Result<(), Fail> 
     )
 }
 
+// The linking row of the point has the sum 2, and its right side is 3.
+#[test]
+fn relations_say_what_the_sum_of_a_linking_row_has_to_be(rt: HostRuntime) -> Result<(), Fail> {
+    let feasible = "feasible\ncost 4\n";
+    let broken = "broken link row 1\n";
+    let cases = [
+        ("point t --rel", "1 1\n<\n", Status::Done, feasible),
+        ("point t --rel", "+1 01 <", Status::Done, feasible),
+        ("point t --rel", "1 1\n>\n", Status::No, broken),
+        ("point t --rel", "1 1\n=\n", Status::No, broken),
+        ("point t", "1 1\n<\n", Status::No, broken),
+    ];
+    for (line, relations, status, text) in cases {
+        let changes = [("t.pt", "2 2\n0 4\n2 2\n"), ("t.rel", relations)];
+        expect(&rt, line, &changes, status, text, "")?;
+    }
+    let no_rows = [
+        ("t.link.mat", "0 2"),
+        ("t.rhs", "1 2 4 4"),
+        ("t.rel", "1 -0"),
+    ];
+    let text = "feasible\ncost 5\n";
+    expect(&rt, "point t --rel", &no_rows, Status::Done, text, "")
+}
+
+#[test]
+fn a_refused_relation_is_named_with_the_place(rt: HostRuntime) -> Result<(), Fail> {
+    for (text, line) in [
+        ("1 1\n~", "input: t.rel: syntax at 4\n"),
+        ("1 1\n<=\n", "input: t.rel: syntax at 4\n"),
+        ("1 1\n", "input: t.rel: syntax at 4\n"),
+        ("1 1 < <", "input: t.rel: syntax at 6\n"),
+        ("1 0", "input: t.rel: syntax at 2\n"),
+        ("2 1 <", "input: t.rel: syntax at 0\n"),
+    ] {
+        let changes = [("t.rel", text)];
+        expect(&rt, "point t --rel", &changes, Status::Input, "", line)?;
+    }
+    let absent = [("t.rel", "")];
+    let line = "read: t.rel\n";
+    expect(&rt, "point t --rel", &absent, Status::ReadFault, "", line)
+}
+
+const USAGE: &str = "usage: nfold point P, graver M, solve P, check P, trial NUMBER N\n";
+
 #[test]
 fn words_that_are_no_form_give_the_usage(rt: HostRuntime) -> Result<(), Fail> {
-    let usage = "usage: nfold point P, graver M, solve P, check P, trial NUMBER N\n";
-    for line in ["", "point", "point -t", "point t t", "points t"] {
-        expect(&rt, line, &[], Status::Usage, "", usage)?;
+    for line in [
+        "",
+        "point",
+        "point -t",
+        "point t t",
+        "points t",
+        "point t --rel --rel",
+        "graver m --rel",
+        "check t --max-basis 5",
+    ] {
+        expect(&rt, line, &[], Status::Usage, "", USAGE)?;
     }
+    let mut shelf = SteadyShelf::new(rt.alloc(), Vec::new(rt.alloc()));
+    let mut out = SteadySink::new(rt.alloc());
+    let mut err = SteadySink::new(rt.alloc());
+    let got = run(
+        &rt,
+        rt.alloc(),
+        &[],
+        &mut shelf,
+        &mut out,
+        &mut err,
+        &OpenGate,
+    );
+    assert_eq!(rt; got, Status::Usage);
+    assert_eq!(rt; err.bytes(), USAGE.as_bytes());
     Ok(())
 }
 
@@ -191,26 +259,147 @@ fn a_missing_file_is_named(rt: HostRuntime) -> Result<(), Fail> {
     Ok(())
 }
 
-// The first call of the shelf, or of the output, fails.
-#[test]
-fn a_fault_of_the_outside_is_told(rt: HostRuntime) -> Result<(), Fail> {
+/// The calls of the outside that fail: of the shelf, of the output and of the errors.
+#[derive(Clone, Copy)]
+struct Failing {
+    shelf: u64,
+    out: u64,
+    err: u64,
+}
+
+/// No call of this number is made.
+const NONE: u64 = 99;
+
+/// Runs a line over the worked files with other texts in some of them, where calls fail, and tests the status and what
+/// was written.
+fn expect_failing(
+    rt: &(impl Abort + Threads + Alloc<A = Global> + Sync),
+    line: &str,
+    changes: &[(&str, &str)],
+    failing: &Failing,
+    status: Status,
+    out_text: &str,
+    err_text: &str,
+) -> Result<(), Fail> {
     let alloc = rt.alloc();
-    let words = words_of(alloc, "point t")?;
-    for (shelf_fails, out_fails, status, line) in [
-        (1, 9, Status::ReadFault, "read: t.link.mat\n"),
-        (99, 1, Status::WriteFault, "write\n"),
+    let files = files_with(alloc, changes)?;
+    assert!(rt; MemFile::names_differ(&files));
+    let mut shelf = MemShelf::new(alloc, files, [failing.shelf].to_vec(alloc)?, 4_096);
+    let mut out = MemSink::new(alloc, [failing.out].to_vec(alloc)?, 5);
+    let mut err = MemSink::new(alloc, [failing.err].to_vec(alloc)?, 5);
+    let words = words_of(alloc, line)?;
+    let got = run(rt, alloc, &words, &mut shelf, &mut out, &mut err, &OpenGate);
+    assert_eq!(rt; got, status, "at {line}");
+    assert_eq!(rt; out.bytes(), out_text.as_bytes());
+    assert_eq!(rt; err.bytes(), err_text.as_bytes());
+    Ok(())
+}
+
+// Each file takes two calls: its bytes, and the end.
+#[test]
+fn the_file_whose_reading_failed_is_named(rt: HostRuntime) -> Result<(), Fail> {
+    for (line, shelf, text) in [
+        ("point t", 1, "read: t.link.mat\n"),
+        ("point t", 3, "read: t.brick.mat\n"),
+        ("point t", 4, "read: t.brick.mat\n"),
+        ("point t", 5, "read: t.lb\n"),
+        ("point t", 7, "read: t.ub\n"),
+        ("point t", 9, "read: t.rhs\n"),
+        ("point t", 11, "read: t.cost\n"),
+        ("point t", 13, "read: t.pt\n"),
+        ("point t --rel", 11, "read: t.rel\n"),
+        ("point t --rel", 13, "read: t.cost\n"),
+        ("check t", 13, "read: t.cert\n"),
     ] {
-        let files = files_with(alloc, &[])?;
-        assert!(rt; MemFile::names_differ(&files));
-        let mut shelf = MemShelf::new(alloc, files, [shelf_fails].to_vec(alloc)?, 4_096);
-        let mut out = MemSink::new(alloc, [out_fails].to_vec(alloc)?, 4_096);
+        let failing = Failing {
+            shelf,
+            out: NONE,
+            err: NONE,
+        };
+        expect_failing(&rt, line, &[], &failing, Status::ReadFault, "", text)?;
+    }
+    Ok(())
+}
+
+// The output takes five bytes a call.
+#[test]
+fn a_failed_write_leaves_a_first_part(rt: HostRuntime) -> Result<(), Fail> {
+    for (out, text) in [(1, ""), (2, "feasi"), (4, "feasible\ncost 5")] {
+        let failing = Failing {
+            shelf: NONE,
+            out,
+            err: NONE,
+        };
+        let status = Status::WriteFault;
+        expect_failing(&rt, "point t", &[], &failing, status, text, "write\n")?;
+    }
+    Ok(())
+}
+
+// The errors take five bytes a call.
+#[test]
+fn a_fault_of_the_errors_changes_no_status(rt: HostRuntime) -> Result<(), Fail> {
+    let misshaped = [("t.pt", "2 3\n")];
+    let absent = [("t.cost", "")];
+    for (line, changes, out, status, text) in [
+        ("point", [].as_slice(), NONE, Status::Usage, "usage"),
+        ("point t", &misshaped, NONE, Status::Input, "input"),
+        ("point t", &absent, NONE, Status::ReadFault, "read:"),
+        ("point t", &[], 1, Status::WriteFault, "write"),
+    ] {
+        for (err, said) in [(1, ""), (2, text)] {
+            let failing = Failing {
+                shelf: NONE,
+                out,
+                err,
+            };
+            expect_failing(&rt, line, changes, &failing, status, "", said)?;
+        }
+    }
+    Ok(())
+}
+
+// Call 1 of the shelf creates the file, and calls 2 and 3 add its two pieces of at most eight bytes.
+#[test]
+fn what_is_stored_is_whole_before_the_first_byte_of_the_text(rt: HostRuntime) -> Result<(), Fail> {
+    let alloc = rt.alloc();
+    for (shelf_fails, out_fails, status, stored, out_text, err_text) in [
+        (
+            NONE,
+            NONE,
+            Status::Done,
+            Some("a certificate"),
+            "done\n",
+            "",
+        ),
+        (1, NONE, Status::WriteFault, None, "", "write\n"),
+        (2, NONE, Status::WriteFault, Some(""), "", "write\n"),
+        (3, NONE, Status::WriteFault, Some("a certif"), "", "write\n"),
+        (
+            NONE,
+            1,
+            Status::WriteFault,
+            Some("a certificate"),
+            "",
+            "write\n",
+        ),
+    ] {
+        let answer = Answer {
+            status: Status::Done,
+            text: b"done\n".to_vec(alloc)?,
+            stored: Some(StoredFile {
+                name: String::from_str(alloc, "t.cert")?,
+                bytes: b"a certificate".to_vec(alloc)?,
+            }),
+        };
+        let mut shelf = MemShelf::new(alloc, Vec::new(alloc), [shelf_fails].to_vec(alloc)?, 8);
+        let mut out = MemSink::new(alloc, [out_fails].to_vec(alloc)?, 8);
         let mut err = SteadySink::new(alloc);
-        let got = run(
-            &rt, alloc, &words, &mut shelf, &mut out, &mut err, &OpenGate,
-        );
+        let got = give(&answer, &mut shelf, &mut out, &mut err);
         assert_eq!(rt; got, status);
-        assert_eq!(rt; err.bytes(), line.as_bytes());
-        assert!(rt; out.bytes().is_empty());
+        assert_eq!(rt; shelf.file("t.cert"), stored.map(|text| text.as_bytes()));
+        assert_eq!(rt; out.bytes(), out_text.as_bytes());
+        assert_eq!(rt; err.bytes(), err_text.as_bytes());
     }
     Ok(())
 }
@@ -329,8 +518,9 @@ fn expect_checked(
 #[test]
 fn check_confirms_a_brick_that_misses_its_row(rt: HostRuntime) -> Result<(), Fail> {
     let line = "yes infeasible brick 1 residual 1\n";
-    let changes = [("t.rhs", "1 3 3 9 4")];
+    let changes = [("t.rhs", "1 3 3 9 4"), ("t.rel", "1 1 >")];
     expect(&rt, "check t", &changes, Status::Done, line, "")?;
+    expect(&rt, "check t --rel", &changes, Status::Done, line, "")?;
     expect(&rt, "check t", &[], Status::No, "no B2\n", "")
 }
 
@@ -356,8 +546,12 @@ fn check_names_what_is_wrong_with_the_certificate(rt: HostRuntime) -> Result<(),
         (" ", "input: t.cert: ends-early at 1\n"),
         ("nfold-certificate 2", "input: t.cert: word at 18\n"),
         (
-            "nfold-certificate 1 claim optimal",
+            "nfold-certificate 1 claim feasible",
             "input: t.cert: word at 26\n",
+        ),
+        (
+            "nfold-certificate 1 claim optimal",
+            "input: t.cert: ends-early at 33\n",
         ),
         (
             "nfold-certificate 1 claim infeasible-brick 10001",

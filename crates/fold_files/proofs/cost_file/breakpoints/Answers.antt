@@ -1,8 +1,8 @@
-use Rattle.std.proofs.Common.{◌≡◌, Err, arith, rules, ◌++◌, ◌∷◌, []}
+use Rattle.std.proofs.Common.{◌≡◌, Err, arith, ◌++◌, ◌∷◌, [], rules}
 use Rattle.std.proofs.lemmas.List.Elements.{All-push}
 use Rattle.convex_costs.specs.Bounds.{IsBoundedPoint}
-use Rattle.mat_files.specs.Reading.{repeated}
 use Rattle.mat_files.proofs.RepeatLaws.{one_more_read, repeated_refused}
+use Rattle.mat_files.specs.Reading.{repeated}
 use Rattle.fold_files.specs.CostText.{next_breakpoint}
 use Rattle.fold_files.proofs.cost_file.breakpoints.Goals as goal
 
@@ -19,7 +19,6 @@ loop-preserved c =
     record {
       read = rw pushed (one_more_read next_breakpoint c.loop.counter c.args.tokens.now c.loop.tokens c.breakpoint.new.tokens c.loop.points.items
           c.in_ok-breakpoint.field-0 c.loop.invariant.read c.in_ok-breakpoint.ensures.read);
-      bounded = rw pushed (All-push IsBoundedPoint c.loop.points.items c.in_ok-breakpoint.field-0 c.loop.invariant.bounded
-          c.in_ok-breakpoint.ensures.bounded);
+      bounded = rw pushed (All-push IsBoundedPoint c.loop.points.items c.in_ok-breakpoint.field-0 c.loop.invariant.bounded c.in_ok-breakpoint.ensures.bounded);
       many = omega (arith, c.in_ok-push.ensures.len, c.loop.invariant.many);
     }

@@ -1,8 +1,8 @@
-use Rattle.std.proofs.Common.{◌≡◌, arith, rules, ◌++◌, ◌∷◌, []}
+use Rattle.std.proofs.Common.{◌≡◌, arith, ◌++◌, ◌∷◌, [], rules}
 use Rattle.std.proofs.lemmas.List.Elements.{All-push}
 use Rattle.convex_costs.specs.Bounds.{AreBounded}
-use Rattle.mat_files.specs.Reading.{repeated, IsTokenFault}
 use Rattle.mat_files.proofs.RepeatLaws.{one_more_read, refused_so_far}
+use Rattle.mat_files.specs.Reading.{repeated, IsTokenFault}
 use Rattle.fold_files.specs.CostText.{next_cost}
 use Rattle.fold_files.proofs.cost_file.costs.Goals as goal
 
@@ -19,7 +19,6 @@ loop-preserved c =
     record {
       read = rw pushed (one_more_read next_cost c.loop.counter c.args.tokens.now c.loop.tokens c.cost.new.tokens c.loop.costs.items
           c.in_ok-cost.field-0 c.loop.invariant.read c.in_ok-cost.ensures.read);
-      bounded = rw pushed (All-push AreBounded c.loop.costs.items c.in_ok-cost.field-0 c.loop.invariant.bounded
-          c.in_ok-cost.ensures.bounded);
+      bounded = rw pushed (All-push AreBounded c.loop.costs.items c.in_ok-cost.field-0 c.loop.invariant.bounded c.in_ok-cost.ensures.bounded);
       many = omega (arith, c.in_ok-push.ensures.len, c.loop.invariant.many);
     }

@@ -1,4 +1,4 @@
-use Rattle.std.proofs.Common.{◌≡◌, length, All, Ok}
+use Rattle.std.proofs.Common.{◌≡◌, Ok, length, All}
 use Rattle.convex_costs.specs.Bounds.{AreBounded}
 use Rattle.mat_files.specs.Reading.{repeated}
 use Rattle.fold_files.specs.CostText.{next_cost}

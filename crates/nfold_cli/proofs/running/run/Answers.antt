@@ -1,21 +1,53 @@
 use Rattle.std.proofs.Common.{map}
-use Rattle.nfold_cli.specs.Running.{Said}
-use Rattle.nfold_cli.proofs.SayLaws.{says_told, answers_form}
+use Rattle.nfold_cli.proofs.RunLaws.{form_answered, ends, reads_fail, writes_fail, leaves, changes, keeps, is_quiet, says, tells_truth}
 use Rattle.nfold_cli.proofs.running.run.Goals as goal
 
-pub returns-in-Ok-clause-said : goal.returns-in-Ok-clause-said
-returns-in-Ok-clause-said g c =
-    says_told (map (λ w. w.items) c.args.words.now) (g.S.Shelf.files c.args.shelf.now) (g.S.Shelf.read_faults c.args.shelf.now) (g.S.Shelf.read_faults c.answer_words.new.shelf) c.in-Ok.answer
-    (g.E.Sink.taken c.args.err.now) (g.E.Sink.taken c.give.new.err) (Said (g.E.Sink.faults c.args.err.now) (g.E.Sink.faults c.give.new.err) (g.E.Sink.taken c.args.err.now) (g.E.Sink.taken c.give.new.err))
-    c.give.result c.in-Ok.ensures.told
-    (λ written. (c.give.ensures.written written).2)
-    (λ refusal. ((c.give.ensures.refused refusal).0, (c.give.ensures.refused refusal).2))
-    (λ same. (c.give.ensures.broken same).3)
-    (λ same. (c.give.ensures.memory same).1)
+pub returns-clause-form : goal.returns-clause-form
+returns-clause-form g c =
+    form_answered (map (λ w. w.items) c.args.words.now) (record { folder = g.S.Shelf.seen c.args.shelf.now; out = g.K.Sink.seen c.args.out.now; err = g.E.Sink.seen c.args.err.now })
+    (record { folder = g.S.Shelf.seen c.perform.new.shelf; out = g.K.Sink.seen c.perform.new.out; err = g.E.Sink.seen c.perform.new.err }) c.perform.result c.perform.ensures.runs
 
-pub returns-in-Ok-clause-form : goal.returns-in-Ok-clause-form
-returns-in-Ok-clause-form g c =
-    answers_form _ c.give.result _ c.in-Ok.ensures.form
-    (λ written. (c.give.ensures.written written).0)
-    (λ refusal. (c.give.ensures.refused refusal).0)
-    (λ same. (c.give.ensures.broken same).0)
+pub returns-clause-ending : goal.returns-clause-ending
+returns-clause-ending g c =
+    ends (map (λ w. w.items) c.args.words.now) (record { folder = g.S.Shelf.seen c.args.shelf.now; out = g.K.Sink.seen c.args.out.now; err = g.E.Sink.seen c.args.err.now })
+    (record { folder = g.S.Shelf.seen c.perform.new.shelf; out = g.K.Sink.seen c.perform.new.out; err = g.E.Sink.seen c.perform.new.err }) c.perform.result c.perform.ensures.runs
+
+pub returns-clause-read : goal.returns-clause-read
+returns-clause-read g c =
+    reads_fail (map (λ w. w.items) c.args.words.now) (record { folder = g.S.Shelf.seen c.args.shelf.now; out = g.K.Sink.seen c.args.out.now; err = g.E.Sink.seen c.args.err.now })
+    (record { folder = g.S.Shelf.seen c.perform.new.shelf; out = g.K.Sink.seen c.perform.new.out; err = g.E.Sink.seen c.perform.new.err }) c.perform.result c.perform.ensures.runs
+
+pub returns-clause-write : goal.returns-clause-write
+returns-clause-write g c =
+    writes_fail (map (λ w. w.items) c.args.words.now) (record { folder = g.S.Shelf.seen c.args.shelf.now; out = g.K.Sink.seen c.args.out.now; err = g.E.Sink.seen c.args.err.now })
+    (record { folder = g.S.Shelf.seen c.perform.new.shelf; out = g.K.Sink.seen c.perform.new.out; err = g.E.Sink.seen c.perform.new.err }) c.perform.result c.perform.ensures.runs
+
+pub returns-clause-left : goal.returns-clause-left
+returns-clause-left g c =
+    leaves (map (λ w. w.items) c.args.words.now) (record { folder = g.S.Shelf.seen c.args.shelf.now; out = g.K.Sink.seen c.args.out.now; err = g.E.Sink.seen c.args.err.now })
+    (record { folder = g.S.Shelf.seen c.perform.new.shelf; out = g.K.Sink.seen c.perform.new.out; err = g.E.Sink.seen c.perform.new.err }) c.perform.result c.perform.ensures.runs
+
+pub returns-clause-files : goal.returns-clause-files
+returns-clause-files g c =
+    changes (map (λ w. w.items) c.args.words.now) (record { folder = g.S.Shelf.seen c.args.shelf.now; out = g.K.Sink.seen c.args.out.now; err = g.E.Sink.seen c.args.err.now })
+    (record { folder = g.S.Shelf.seen c.perform.new.shelf; out = g.K.Sink.seen c.perform.new.out; err = g.E.Sink.seen c.perform.new.err }) c.perform.result c.perform.ensures.runs
+
+pub returns-clause-kept : goal.returns-clause-kept
+returns-clause-kept g c =
+    keeps (map (λ w. w.items) c.args.words.now) (record { folder = g.S.Shelf.seen c.args.shelf.now; out = g.K.Sink.seen c.args.out.now; err = g.E.Sink.seen c.args.err.now })
+    (record { folder = g.S.Shelf.seen c.perform.new.shelf; out = g.K.Sink.seen c.perform.new.out; err = g.E.Sink.seen c.perform.new.err }) c.perform.result c.perform.ensures.runs
+
+pub returns-clause-quiet : goal.returns-clause-quiet
+returns-clause-quiet g c =
+    is_quiet (map (λ w. w.items) c.args.words.now) (record { folder = g.S.Shelf.seen c.args.shelf.now; out = g.K.Sink.seen c.args.out.now; err = g.E.Sink.seen c.args.err.now })
+    (record { folder = g.S.Shelf.seen c.perform.new.shelf; out = g.K.Sink.seen c.perform.new.out; err = g.E.Sink.seen c.perform.new.err }) c.perform.result c.perform.ensures.runs
+
+pub returns-clause-said : goal.returns-clause-said
+returns-clause-said g c =
+    says (map (λ w. w.items) c.args.words.now) (record { folder = g.S.Shelf.seen c.args.shelf.now; out = g.K.Sink.seen c.args.out.now; err = g.E.Sink.seen c.args.err.now })
+    (record { folder = g.S.Shelf.seen c.perform.new.shelf; out = g.K.Sink.seen c.perform.new.out; err = g.E.Sink.seen c.perform.new.err }) c.perform.result c.perform.ensures.runs
+
+pub returns-clause-holds : goal.returns-clause-holds
+returns-clause-holds g c =
+    tells_truth (map (λ w. w.items) c.args.words.now) (record { folder = g.S.Shelf.seen c.args.shelf.now; out = g.K.Sink.seen c.args.out.now; err = g.E.Sink.seen c.args.err.now })
+    (record { folder = g.S.Shelf.seen c.perform.new.shelf; out = g.K.Sink.seen c.perform.new.out; err = g.E.Sink.seen c.perform.new.err }) c.perform.result c.perform.ensures.runs
