@@ -1,0 +1,74 @@
+use Rattle.std.proofs.Common.{arith, ◌≡◌, ◌≤◌, ◌<◌, ◌∙◌, sym, ap, length, get_or, true, false, None, Some}
+use Rattle.std.proofs.lemmas.Option.{slice_get-get_or}
+use Rattle.lattice_theory.specs.Vectors.{Vector, sub}
+use Rattle.lattice_theory.specs.Matrices.{product}
+use Rattle.fold_theory.specs.Programs.{link_rests, link_miss}
+use Rattle.run_theory.specs.Walks.{end_cost}
+use Rattle.run_theory.specs.Checker.{at_most}
+use Rattle.complete_lists.proofs.ScanLaws.{at-All}
+use Rattle.listed_sums.specs.Places.{vectors_of, IsModest}
+use Rattle.listed_sums.proofs.RowLaws.{length-vectors_of}
+use Rattle.listed_potentials.specs.Ends.{end_at}
+use Rattle.listed_potentials.proofs.EndLaws.{end-cost, length-rests}
+use Rattle.listed_potentials.proofs.RowLaws.{zip-at, zip-end}
+use Rattle.listed_potentials.proofs.ends.ends_hold.Goals as goal
+
+pub missed_after-after-requires-clause-rests : goal.missed_after-after-requires-clause-rests
+missed_after-after-requires-clause-rests c =
+    ap length (c.deref.ensures.value ∙ c.in_ok-rests.ensures.rests)
+    ∙ length-rests c.args.program.now c.args.point.now c.n.ensures.program.right_size
+
+pub missed_after-after-requires-clause-modest : goal.missed_after-after-requires-clause-modest
+missed_after-after-requires-clause-modest c =
+    at-All IsModest (vectors_of c.args.sums.now.rows) c.loop-place.place c.vector_of.result.now c.vector_of.ensures.sum
+    c.requires.modest
+
+pub returns-then-not-is_at_most : goal.returns-then-not-is_at_most
+returns-then-not-is_at_most c =
+    let p = c.args.program.now in
+    let rests = link_rests p c.args.point.now in
+    let zs = vectors_of c.args.sums.now.rows in
+    let w = c.vector_of.result.now in
+    let low : c.loop-place.place < length c.args.row.now =
+    omega (arith, c.requires.width, c.rows-place-end.ensures, c.loop-place-test.true) in
+    let cost : end_cost p c.args.phase rests (product p.link w) ≡ c.end.result =
+    end-cost p c.args.phase rests (product p.link w)
+    ∙ (λ i. end_at c.args.phase (sym c.link_residual-before.ensures.residual i)
+    (link_miss p (sub (sym (c.deref.ensures.value ∙ c.in_ok-rests.ensures.rests) i) (product p.link w))))
+    ∙ ap (end_at c.args.phase c.link_residual-before.result) (sym c.missed_after-after.ensures.missed) ∙ sym c.end.ensures in
+    sym (zip-at (λ u here. at_most here (end_cost p c.args.phase rests (product p.link u))) zs c.args.row.now
+    c.loop-place.place w (get_or c.args.row.now c.loop-place.place None) false c.vector_of.ensures.sum
+    (slice_get-get_or c.args.row.now c.loop-place.place None low)
+    (ap (at_most (get_or c.args.row.now c.loop-place.place None)) cost ∙ sym c.is_at_most.ensures
+    ∙ c.if-not-is_at_most.true)) ∙ c.loop-place.invariant
+
+pub loop-place-preserved : goal.loop-place-preserved
+loop-place-preserved c =
+    let p = c.args.program.now in
+    let rests = link_rests p c.args.point.now in
+    let zs = vectors_of c.args.sums.now.rows in
+    let w = c.vector_of.result.now in
+    let low : c.loop-place.place < length c.args.row.now =
+    omega (arith, c.requires.width, c.rows-place-end.ensures, c.loop-place-test.true) in
+    let cost : end_cost p c.args.phase rests (product p.link w) ≡ c.end.result =
+    end-cost p c.args.phase rests (product p.link w)
+    ∙ (λ i. end_at c.args.phase (sym c.link_residual-before.ensures.residual i)
+    (link_miss p (sub (sym (c.deref.ensures.value ∙ c.in_ok-rests.ensures.rests) i) (product p.link w))))
+    ∙ ap (end_at c.args.phase c.link_residual-before.result) (sym c.missed_after-after.ensures.missed) ∙ sym c.end.ensures in
+    sym (zip-at (λ u here. at_most here (end_cost p c.args.phase rests (product p.link u))) zs c.args.row.now
+    c.loop-place.place w (get_or c.args.row.now c.loop-place.place None) true c.vector_of.ensures.sum
+    (slice_get-get_or c.args.row.now c.loop-place.place None low)
+    (ap (at_most (get_or c.args.row.now c.loop-place.place None)) cost ∙ sym c.is_at_most.ensures
+    ∙ c.if-not-is_at_most.false)) ∙ c.loop-place.invariant
+
+pub returns : goal.returns
+returns c =
+    let p = c.args.program.now in
+    let rests = link_rests p c.args.point.now in
+    let zs = vectors_of c.args.sums.now.rows in
+    let past : length zs ≤ c.loop-place.place =
+    omega (arith, length-vectors_of c.args.sums.now.rows, c.rows-place-end.ensures, c.loop-place-test.false) in
+    let over : length c.args.row.now ≤ c.loop-place.place =
+    omega (arith, c.requires.width, c.rows-place-end.ensures, c.loop-place-test.false) in
+    sym (zip-end (λ u here. at_most here (end_cost p c.args.phase rests (product p.link u))) zs c.args.row.now
+    c.loop-place.place past over) ∙ c.loop-place.invariant

@@ -1,0 +1,5 @@
+pub mod Moves
+pub mod Columns
+pub mod Ends
+pub mod Places
+pub mod Sizes

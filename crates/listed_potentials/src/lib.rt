@@ -1,0 +1,10 @@
+//! Whether a listed table of potentials shows that no walk through the layers costs less than nothing.
+#![tactic(auto)]
+
+mod changes;
+mod columns;
+mod costs;
+mod ends;
+mod layers;
+
+pub use layers::potentials_hold;
