@@ -202,7 +202,8 @@ table_too_large = refl
 pub no_potential : linked (codes "links 0 1 bound 1 sums 0 2 potentials 1 1 nine") ≡ refused 97 kind.NotNumber
 no_potential = refl
 
-pub potential_too_big : linked (codes "links 0 1 bound 1 sums 0 2 potentials 1 1 21267647932558653966460912964485513217")
+pub potential_too_big : linked
+    (codes "links 0 1 bound 1 sums 0 2 potentials 1 1 21267647932558653966460912964485513217")
     ≡ refused 97 kind.TooBig
 potential_too_big = refl
 

@@ -1,8 +1,11 @@
 -- What is read of the parts about the linking rows is within their limits.
-use Rattle.std.proofs.Common.{◌≡◌, ℕ, zero, suc, ◌*◌, ◌+◌, ◌^◌, ◌≤◌, ℤ, pos, ◌≤ℤ◌, unsigned_abs, Bool, true, false, cond, List, [], ◌∷◌}
-use Rattle.std.proofs.Common.{◌++◌, length, take, drop, All, Option, Some, None, Result, Ok, codes, refl, ap, subst, sym, ◌∙◌, arith, add-one}
+use Rattle.std.proofs.Common.{◌≡◌, ℕ, zero, suc, ◌*◌, ◌+◌, ◌^◌, ◌≤◌, ℤ, pos, ◌≤ℤ◌, unsigned_abs, Bool, true, false}
+use Rattle.std.proofs.Common.{cond, List, [], ◌∷◌}
+use Rattle.std.proofs.Common.{◌++◌, length, take, drop, All, Option, Some, None, Result, Ok, codes, refl, ap, subst}
+use Rattle.std.proofs.Common.{sym, ◌∙◌, arith, add-one}
 use Rattle.std.specs.Str.{bytes_eq}
-use Rattle.std.proofs.lemmas.List.{take-append-le, drop-append-le, take_all, drop_all, append-nil, length-drop, length-append}
+use Rattle.std.proofs.lemmas.List.{take-append-le, drop-append-le, take_all, drop_all, append-nil, length-drop}
+use Rattle.std.proofs.lemmas.List.{length-append}
 use Rattle.std.proofs.lemmas.Int.{ints}
 use Rattle.lattice_theory.specs.Vectors.{Vector}
 use Rattle.lattice_theory.specs.Matrices.{rows_of}
@@ -28,7 +31,8 @@ next_sum_is zero now after row is =
     subst (IsReadSum zero) none (record { width = refl; limits = tt })
 next_sum_is (suc cols) now after row is =
     let level = both_ok (next_count 0 (2 ^ 62) token.TooBig now) _ (row, after) is in
-    let sum = both_ok (repeated (next_number (2 ^ 47)) cols level.0.1) (λ v. Ok (pos level.0.0 ∷ v.0, v.1)) (row, after) level.2 in
+    let sum = both_ok (repeated (next_number (2 ^ 47)) cols level.0.1) (λ v. Ok (pos level.0.0 ∷ v.0, v.1))
+    (row, after) level.2 in
     let whole : pos level.0.0 ∷ sum.0.0 ≡ row =
     ap (λ (p : Vector × Left). p.0) (same_ok (pos level.0.0 ∷ sum.0.0, sum.0.1) (row, after) sum.2) in
     let count = next_count_within 0 (2 ^ 62) token.TooBig now level.0.1 level.0.0 level.1 in
@@ -46,7 +50,8 @@ pub sum_width : (cols : ℕ) (now after : Left) (row : Vector) → next_sum cols
 sum_width cols now after row is = (next_sum_is cols now after row is).width
 
 -- all rows of sums are within their limits
-pub sums_are : (cols rows : ℕ) (now after : Left) (sums : List Vector) → repeated (next_sum cols) rows now ≡ Ok (sums, after)
+pub sums_are : (cols rows : ℕ) (now after : Left) (sums : List Vector)
+    → repeated (next_sum cols) rows now ≡ Ok (sums, after)
     → All IsSumRow sums
 sums_are cols rows now after sums is =
     repeated_all (next_sum cols) IsSumRow (λ before behind row reads. (next_sum_is cols before behind row reads).limits)
@@ -70,7 +75,8 @@ rows_of-push (suc n) cols entries row all width =
 pub one_more_sum : (cols i : ℕ) (start now after : Left) (before entries : Vector)
     → repeated (next_sum cols) i start ≡ Ok (rows_of i cols before, now) → length before ≡ i * cols
     → IsAdded (next_sum cols now) before entries after
-    → (repeated (next_sum cols) (i + 1) start ≡ Ok (rows_of (i + 1) cols entries, after)) × (length entries ≡ (i + 1) * cols)
+    → (repeated (next_sum cols) (i + 1) start ≡ Ok (rows_of (i + 1) cols entries, after)) ×
+    (length entries ≡ (i + 1) * cols)
 one_more_sum cols i start now after before entries so_far all added =
     let row = added.0 in
     let width = sum_width cols now after row added.1 in
@@ -87,14 +93,16 @@ one_more_sum cols i start now after before entries so_far all added =
 cell_at_is : (t : Token) (cell : Option ℤ) → cell_at t ≡ Ok cell → IsCell cell
 cell_at_is t cell is = by_word (bytes_eq t.text (codes "none")) is
   where
-    by_word : (none : Bool) → cond none (Ok None) (and_then (number_at (2 ^ 124) t) (λ a. Ok (Some a))) ≡ Ok cell → IsCell cell
+    by_word : (none : Bool) → cond none (Ok None) (and_then (number_at (2 ^ 124) t) (λ a. Ok (Some a))) ≡ Ok cell
+        → IsCell cell
     by_word true e = subst IsCell (same_ok None cell e) tt
     by_word false e =
         let number = both_ok (number_at (2 ^ 124) t) (λ a. Ok (Some a)) cell e in
         subst IsCell (same_ok (Some number.0) cell number.2) (number_at_small (2 ^ 124) t number.0 number.1)
 
 -- all potentials are within their limit
-pub cells_are : (count : ℕ) (now after : Left) (cells : List (Option ℤ)) → repeated (next_by cell_at) count now ≡ Ok (cells, after)
+pub cells_are : (count : ℕ) (now after : Left) (cells : List (Option ℤ))
+    → repeated (next_by cell_at) count now ≡ Ok (cells, after)
     → All IsCell cells
 cells_are count now after cells is =
     repeated_all (next_by cell_at) IsCell

@@ -1,6 +1,8 @@
 -- What is printed of a certificate is read again.
-use Rattle.std.proofs.Common.{◌≡◌, ℕ, zero, suc, ◌+◌, ◌*◌, ◌^◌, ◌<◌, ◌≤◌, ◌-◌, ℤ, pos, negsuc, unsigned_abs, true, false, not, List, [], ◌∷◌}
-use Rattle.std.proofs.Common.{◌++◌, length, get_or, flat_map, Option, Some, None, Ok, refl, ap, sym, ◌∙◌, subst, append_assoc, arith}
+use Rattle.std.proofs.Common.{◌≡◌, ℕ, zero, suc, ◌+◌, ◌*◌, ◌^◌, ◌<◌, ◌≤◌, ◌-◌, ℤ, pos, negsuc, unsigned_abs, true}
+use Rattle.std.proofs.Common.{false, not, List, [], ◌∷◌}
+use Rattle.std.proofs.Common.{◌++◌, length, get_or, flat_map, Option, Some, None, Ok, refl, ap, sym, ◌∙◌, subst}
+use Rattle.std.proofs.Common.{append_assoc, arith}
 use Rattle.std.proofs.Common.{All, codes, inl, inr}
 use Rattle.std.specs.Fmt.{decimal, signed_decimal}
 use Rattle.std.specs.List.{AllByRecursion, list_all}
@@ -21,13 +23,19 @@ use Rattle.mat_files.specs.Reading.{Read, number_at, next_word, next_by, next_nu
 use Rattle.mat_files.specs.MatrixText.{row_text, matrix_text}
 use Rattle.mat_files.proofs.WordLaws.{IsWord, word_of, first_word, printed_count, printed_number}
 use Rattle.mat_files.proofs.PrintingLaws.{line}
-use Rattle.mat_files.proofs.PrintedLaws.{Reads, Reads-then, Reads-map, Reads-word, Reads-count, Reads-token, Reads-each, Reads-lines}
-use Rattle.mat_files.proofs.PrintedLaws.{Reads-one_line, Reads-entries, IsPrintable, IsPrintableRow, entry_printed, number_at-printed, count_at-printed}
+use Rattle.mat_files.proofs.PrintedLaws.{Reads, Reads-then, Reads-map, Reads-word, Reads-count, Reads-token, Reads-each}
+use Rattle.mat_files.proofs.PrintedLaws.{Reads-lines}
+use Rattle.mat_files.proofs.PrintedLaws.{Reads-one_line, Reads-entries, IsPrintable, IsPrintableRow, entry_printed}
+use Rattle.mat_files.proofs.PrintedLaws.{number_at-printed, count_at-printed}
 use Rattle.mat_files.proofs.PrintedLaws.{left_from, only-printed}
-use Rattle.certificate.specs.CertificateText.{cell_text, cells_text, table_text, fold_text, claim_text, certificate_text, next_size}
-use Rattle.certificate.specs.CertificateText.{next_part, next_bound, next_sum, next_sums, cell_at, width_at, next_potentials, next_fold}
-use Rattle.certificate.specs.CertificateText.{next_head, next_claim, claim_after, fold_after, next_certificate, cert_answer, parsed_certificate}
-use Rattle.certificate.specs.Readable.{IsBoundedRow, IsSumRow, IsCell, IsWithin, IsWithinTable, IsReadablePart, IsNumbered}
+use Rattle.certificate.specs.CertificateText.{cell_text, cells_text, table_text, fold_text, claim_text}
+use Rattle.certificate.specs.CertificateText.{certificate_text, next_size}
+use Rattle.certificate.specs.CertificateText.{next_part, next_bound, next_sum, next_sums, cell_at, width_at}
+use Rattle.certificate.specs.CertificateText.{next_potentials, next_fold}
+use Rattle.certificate.specs.CertificateText.{next_head, next_claim, claim_after, fold_after, next_certificate}
+use Rattle.certificate.specs.CertificateText.{cert_answer, parsed_certificate}
+use Rattle.certificate.specs.Readable.{IsBoundedRow, IsSumRow, IsCell, IsWithin, IsWithinTable, IsReadablePart}
+use Rattle.certificate.specs.Readable.{IsNumbered}
 use Rattle.certificate.specs.Readable.{FitsClaim, IsReadable}
 use Rattle.certificate.proofs.TableLaws.{table_rows-all}
 
@@ -57,11 +65,13 @@ module _ {A : Type 0} (word : List ℕ) (most : ℕ) (cols_in : ℕ → Left →
       let col_word = decimal cols ++ 10 ∷ [] in
       let from_cols = Reads-then (cols_in rows) (λ c left. body_in rows c left) col_word body cols a width reads in
       subst (λ t. Reads sized t a) (sym is)
-      (Reads-then (next_size most) (λ r left. and_then (cols_in r left) (λ c. body_in r c.0 c.1)) row_word (col_word ++ body) rows a
+      (Reads-then (next_size most) (λ r left. and_then (cols_in r left) (λ c. body_in r c.0 c.1)) row_word
+      (col_word ++ body) rows a
       (Reads-size most 32 rows below few refl) from_cols)
 
   Reads-worded : (text : List ℕ) (rows cols : ℕ) (body : List ℕ) (a : A)
-      → text ≡ (decimal rows ++ 32 ∷ []) ++ ((decimal cols ++ 10 ∷ []) ++ body) → IsWord word → most < 10 ^ 64 → rows ≤ most
+      → text ≡ (decimal rows ++ 32 ∷ []) ++ ((decimal cols ++ 10 ∷ []) ++ body) → IsWord word → most < 10 ^ 64
+      → rows ≤ most
       → Reads (cols_in rows) (decimal cols ++ 10 ∷ []) cols → Reads (body_in rows cols) body a
       → Reads (λ left. and_then (next_word word left) (λ u. sized u.1)) ((word ++ 10 ∷ []) ++ text) a
   Reads-worded text rows cols body a is is_word below few width reads =
@@ -71,7 +81,8 @@ module _ {A : Type 0} (word : List ℕ) (most : ℕ) (cols_in : ℕ → Left →
 -- ---- matrices
 
 -- numbers that are at most so much are below more
-below_from : (m : Matrix) (largest : ℕ) → largest < 10 ^ 64 → All (λ row. All (λ a. unsigned_abs a ≤ largest) row) m.rows
+below_from : (m : Matrix) (largest : ℕ) → largest < 10 ^ 64 → All (λ row. All (λ a. unsigned_abs a ≤ largest) row)
+    m.rows
     → All (λ row. All (λ a. unsigned_abs a < 10 ^ 64) row) m.rows
 below_from m largest below small k d inside j e there =
     let at_most : unsigned_abs (get_or (get_or m.rows k d) j e) ≤ largest = small k d inside j e there in omega arith
@@ -82,19 +93,23 @@ Reads-part : (word : List ℕ) (most_rows most_cols largest : ℕ) (m : Matrix) 
     → All (λ row. All (λ a. unsigned_abs a ≤ largest) row) m.rows
     → Reads (next_part word most_rows most_cols largest) ((word ++ 10 ∷ []) ++ matrix_text m) m
 Reads-part word most_rows most_cols largest m is_word below_rows below_cols below within small =
-    Reads-worded word most_rows (λ r left. next_size most_cols left) (λ r c left. next_matrix r c largest left) (matrix_text m)
-    (length m.rows) m.cols (flat_map row_text m.rows) m (simp append_assoc) is_word below_rows within.rows (Reads-size most_cols 10 m.cols below_cols within.cols refl)
+    Reads-worded word most_rows (λ r left. next_size most_cols left) (λ r c left. next_matrix r c largest left)
+    (matrix_text m)
+    (length m.rows) m.cols (flat_map row_text m.rows) m (simp append_assoc) is_word below_rows within.rows
+    (Reads-size most_cols 10 m.cols below_cols within.cols refl)
     (Reads-entries largest m within.width small (below_from m largest below small))
 
 -- the part of the point
 Reads-point : (m : Matrix) → IsWithin 10000 32 m → All IsBoundedRow m.rows
     → Reads (next_part (codes "point") 10000 32 (2 ^ 62)) (codes "point\n" ++ matrix_text m) m
 Reads-point m within bounded =
-    Reads-part (codes "point") 10000 32 (2 ^ 62) m (word_of _ (omega arith) refl) (omega arith) (omega arith) (omega arith) within
+    Reads-part (codes "point") 10000 32 (2 ^ 62) m (word_of _ (omega arith) refl) (omega arith) (omega arith)
+    (omega arith) within
     (λ k d inside j e there. leb-true _ (2 ^ 62) (bounded k d inside j e there))
 
 -- a part whose entries are narrow
-Reads-narrow : (word : List ℕ) (most_rows most_cols : ℕ) (m : Matrix) → IsWord word → most_rows < 10 ^ 64 → most_cols < 10 ^ 64
+Reads-narrow : (word : List ℕ) (most_rows most_cols : ℕ) (m : Matrix) → IsWord word → most_rows < 10 ^ 64
+    → most_cols < 10 ^ 64
     → IsWithin most_rows most_cols m → All IsNarrow m.rows
     → Reads (next_part word most_rows most_cols (2 ^ 31 - 1)) ((word ++ 10 ∷ []) ++ matrix_text m) m
 Reads-narrow word most_rows most_cols m is_word below_rows below_cols within narrow =
@@ -126,9 +141,11 @@ Reads-sum cols (pos l ∷ b ∷ v) width limits =
     let numbers = Reads-numbers (2 ^ 47) (b ∷ v) (omega arith) limits.2 in
     let text : row_text (pos l ∷ b ∷ v) ≡ (decimal l ++ 32 ∷ []) ++ row_text (b ∷ v) = simp append_assoc in
     let reads = Reads-then (next_count 0 (2 ^ 62) token.TooBig)
-    (λ level left. and_then (repeated (next_number (2 ^ 47)) (length (b ∷ v)) left) (λ rest. Ok (pos level ∷ rest.0, rest.1)))
+    (λ level left. and_then (repeated (next_number (2 ^ 47)) (length (b ∷ v)) left)
+    (λ rest. Ok (pos level ∷ rest.0, rest.1)))
     (decimal l ++ 32 ∷ []) (row_text (b ∷ v)) l (pos l ∷ b ∷ v) level
-    (Reads-map (repeated (next_number (2 ^ 47)) (length (b ∷ v))) (λ rest. pos l ∷ rest) (row_text (b ∷ v)) (b ∷ v) numbers) in
+    (Reads-map (repeated (next_number (2 ^ 47)) (length (b ∷ v))) (λ rest. pos l ∷ rest) (row_text (b ∷ v)) (b ∷ v)
+    numbers) in
     subst (λ n. Reads (next_sum n) (row_text (pos l ∷ b ∷ v)) (pos l ∷ b ∷ v)) width
     (subst (λ t. Reads (next_sum (suc (length (b ∷ v)))) t (pos l ∷ b ∷ v)) (sym text) reads)
 
@@ -141,7 +158,8 @@ Reads-sums m within limits =
     (λ k d inside. Reads-sum m.cols (get_or m.rows k d) (within.width k d inside) (limits k d inside)) in
     Reads-worded (codes "sums") 20000 (λ r left. next_size 33 left)
     (λ r c left. and_then (repeated (next_sum c) r left) (λ sums. Ok (record { cols = c; rows = sums.0 }, sums.1)))
-    (matrix_text m) (length m.rows) m.cols (flat_map row_text m.rows) m (simp append_assoc) (word_of _ (omega arith) refl) (omega arith) within.rows
+    (matrix_text m) (length m.rows) m.cols (flat_map row_text m.rows) m (simp append_assoc)
+    (word_of _ (omega arith) refl) (omega arith) within.rows
     (Reads-size 33 10 m.cols (omega arith) within.cols refl)
     (Reads-map (repeated (next_sum m.cols) (length m.rows)) made (flat_map row_text m.rows) m.rows
     (Reads-each (next_sum m.cols) row_text m.rows each))
@@ -193,7 +211,8 @@ Reads-potentials t within =
     let body : ℕ → ℕ → Left → Read Table = λ rows cols left.
     and_then (repeated (next_by cell_at) (rows * cols) left) (λ cells. Ok (table_of rows cols cells.0, cells.1)) in
     Reads-worded (codes "potentials") 10001 (λ rows left. next_by (width_at rows) left) body (table_text t) r t.cols
-    (flat_map cells_text t.rows) t (simp append_assoc) (word_of _ (omega arith) refl) (omega arith) within.rows (Reads-width r t.cols within.cols within.product)
+    (flat_map cells_text t.rows) t (simp append_assoc) (word_of _ (omega arith) refl) (omega arith) within.rows
+    (Reads-width r t.cols within.cols within.product)
     (subst (Reads (body r t.cols) (flat_map cells_text t.rows)) is read)
 
 -- ---- the parts about the linking rows
@@ -201,7 +220,8 @@ Reads-potentials t within =
 -- the bound
 Reads-bound : (n : ℕ) → n ≤ 2 ^ 62 → Reads next_bound ((codes "bound ") ++ (decimal n ++ 10 ∷ [])) n
 Reads-bound n small =
-    Reads-then (next_word (codes "bound")) (λ u left. next_count 0 (2 ^ 62) token.TooBig left) (codes "bound ") (decimal n ++ 10 ∷ []) tt n
+    Reads-then (next_word (codes "bound")) (λ u left. next_count 0 (2 ^ 62) token.TooBig left) (codes "bound ")
+    (decimal n ++ 10 ∷ []) tt n
     (Reads-fixed (codes "bound") 32 (omega arith) refl refl)
     (Reads-count 0 (2 ^ 62) token.TooBig 10 n (omega arith) (omega arith) small refl)
 
@@ -257,18 +277,24 @@ module _ (f : FoldPart) where
       let sums_text = codes "sums\n" ++ matrix_text f.sums in
       let potentials_text = codes "potentials\n" ++ table_text f.potentials in
       let text : fold_text (Some f) ≡ links_text ++ (bound_text ++ (sums_text ++ potentials_text)) =
-      regroup_fold links_text (codes "bound ") (decimal f.bound) (codes "sums\n") (matrix_text f.sums) (codes "potentials\n")
+      regroup_fold links_text (codes "bound ") (decimal f.bound) (codes "sums\n") (matrix_text f.sums)
+      (codes "potentials\n")
       (table_text f.potentials) in
       let made : Table → FoldPart = λ t. record { links = f.links; bound = f.bound; sums = f.sums; potentials = t } in
-      let potentials = Reads-map next_potentials made potentials_text f.potentials (Reads-potentials f.potentials readable.potentials) in
-      let sums = Reads-then next_sums after_sums sums_text potentials_text f.sums f (Reads-sums f.sums readable.sums readable.sum_rows)
+      let potentials = Reads-map next_potentials made potentials_text f.potentials
+      (Reads-potentials f.potentials readable.potentials) in
+      let sums = Reads-then next_sums after_sums sums_text potentials_text f.sums f
+      (Reads-sums f.sums readable.sums readable.sum_rows)
       potentials in
-      let bound = Reads-then next_bound after_bound bound_text (sums_text ++ potentials_text) f.bound f (Reads-bound f.bound readable.bound)
+      let bound = Reads-then next_bound after_bound bound_text (sums_text ++ potentials_text) f.bound f
+      (Reads-bound f.bound readable.bound)
       sums in
-      let links = Reads-narrow (codes "links") 2000 2016 f.links (word_of _ (omega arith) refl) (omega arith) (omega arith) readable.links
+      let links = Reads-narrow (codes "links") 2000 2016 f.links (word_of _ (omega arith) refl) (omega arith)
+      (omega arith) readable.links
       readable.narrow in
       subst (λ t. Reads next_fold t f) (sym text)
-      (Reads-then (next_part (codes "links") 2000 2016 (2 ^ 31 - 1)) after_links links_text (bound_text ++ (sums_text ++ potentials_text))
+      (Reads-then (next_part (codes "links") 2000 2016 (2 ^ 31 - 1)) after_links links_text
+      (bound_text ++ (sums_text ++ potentials_text))
       f.links f links bound)
 
 -- the parts about the linking rows, where the claim wants them
@@ -277,7 +303,8 @@ Reads-fold_after claim.Optimal None fits = absurd fits
 Reads-fold_after claim.InfeasibleLink None fits = absurd fits
 Reads-fold_after (claim.InfeasibleBrick i) None fits = λ end n rest. (n, refl)
 Reads-fold_after claim.Optimal (Some f) fits = Reads-map next_fold Some (fold_text (Some f)) f (Reads-fold f fits.1)
-Reads-fold_after claim.InfeasibleLink (Some f) fits = Reads-map next_fold Some (fold_text (Some f)) f (Reads-fold f fits.1)
+Reads-fold_after claim.InfeasibleLink (Some f) fits = Reads-map next_fold Some (fold_text (Some f)) f
+    (Reads-fold f fits.1)
 Reads-fold_after (claim.InfeasibleBrick i) (Some f) fits = absurd fits.0
 
 -- ---- the words and the claim
@@ -288,9 +315,11 @@ Reads-head =
     let name = Reads-fixed (codes "nfold-certificate") 32 (omega arith) refl refl in
     let one = Reads-fixed (codes "1") 10 (omega arith) refl refl in
     let claims = Reads-fixed (codes "claim") 32 (omega arith) refl refl in
-    Reads-then (next_word (codes "nfold-certificate")) (λ a left. and_then (next_word (codes "1") left) (λ b. next_word (codes "claim") b.1))
+    Reads-then (next_word (codes "nfold-certificate")) (λ a left. and_then (next_word (codes "1") left)
+    (λ b. next_word (codes "claim") b.1))
     (codes "nfold-certificate ") (codes "1\nclaim ") tt tt name
-    (Reads-then (next_word (codes "1")) (λ a left. next_word (codes "claim") left) (codes "1\n") (codes "claim ") tt tt one claims)
+    (Reads-then (next_word (codes "1")) (λ a left. next_word (codes "claim") left) (codes "1\n") (codes "claim ") tt tt
+    one claims)
 
 -- a claim that is a word alone
 Reads-plain : (word : List ℕ) (c : Claim) → IsWord word
@@ -314,11 +343,13 @@ Reads-brick word i small is_word is end n rest =
     (Reads-count 0 10000 token.TooBig 10 i (omega arith) (omega arith) small refl) in
     let first = first_word word n 32 (digits ++ rest) is_word refl in
     let last = number end first.0 rest in
-    let whole : (((word ++ 32 ∷ []) ++ decimal i) ++ 10 ∷ []) ++ rest ≡ word ++ 32 ∷ (digits ++ rest) = simp append_assoc in
+    let whole : (((word ++ 32 ∷ []) ++ decimal i) ++ 10 ∷ []) ++ rest ≡ word ++ 32 ∷ (digits ++ rest) = simp
+    append_assoc in
     (last.0, rw (whole, first.1) (is n (left_from end first.0 (digits ++ rest)) ∙ last.1))
 
 Reads-claim : (c : Claim) → IsNumbered c → Reads next_claim (claim_text c ++ 10 ∷ []) c
-Reads-claim claim.Optimal numbered = Reads-plain (codes "optimal") claim.Optimal (word_of _ (omega arith) refl) (λ n left. refl)
+Reads-claim claim.Optimal numbered = Reads-plain (codes "optimal") claim.Optimal (word_of _ (omega arith) refl)
+    (λ n left. refl)
 Reads-claim claim.InfeasibleLink numbered =
     Reads-plain (codes "infeasible-link") claim.InfeasibleLink (word_of _ (omega arith) refl) (λ n left. refl)
 Reads-claim (claim.InfeasibleBrick i) numbered =
@@ -374,15 +405,20 @@ module _ (c : Certificate) (readable : IsReadable c) where
       let rest_of_claim = point_text ++ rest_of_point in
       let claim_line = claim_text c.claim ++ 10 ∷ [] in
       let text : certificate_text c ≡ head_text ++ (claim_line ++ rest_of_claim) =
-      regroup head_text (claim_text c.claim) (codes "point\n") (matrix_text c.point) (codes "bricks\n") (matrix_text c.bricks)
+      regroup head_text (claim_text c.claim) (codes "point\n") (matrix_text c.point) (codes "bricks\n")
+      (matrix_text c.bricks)
       (fold_text c.fold) (codes "end\n") in
-      let last = Reads-map (next_word (codes "end")) (λ u. c) (codes "end\n") tt (Reads-fixed (codes "end") 10 (omega arith) refl refl) in
+      let last = Reads-map (next_word (codes "end")) (λ u. c) (codes "end\n") tt
+      (Reads-fixed (codes "end") 10 (omega arith) refl refl) in
       let fold = Reads-then (fold_after c.claim) after_fold (fold_text c.fold) (codes "end\n") c.fold c
       (Reads-fold_after c.claim c.fold readable.parts) last in
-      let bricks = Reads-then (next_part (codes "bricks") 2000 48 (2 ^ 31 - 1)) after_bricks bricks_text rest_of_bricks c.bricks c
-      (Reads-narrow (codes "bricks") 2000 48 c.bricks (word_of _ (omega arith) refl) (omega arith) (omega arith) readable.bricks readable.narrow)
+      let bricks = Reads-then (next_part (codes "bricks") 2000 48 (2 ^ 31 - 1)) after_bricks bricks_text rest_of_bricks
+      c.bricks c
+      (Reads-narrow (codes "bricks") 2000 48 c.bricks (word_of _ (omega arith) refl) (omega arith) (omega arith)
+      readable.bricks readable.narrow)
       fold in
-      let point = Reads-then (next_part (codes "point") 10000 32 (2 ^ 62)) after_point point_text rest_of_point c.point c
+      let point = Reads-then (next_part (codes "point") 10000 32 (2 ^ 62)) after_point point_text rest_of_point c.point
+      c
       (Reads-point c.point readable.point readable.bounded) bricks in
       let claims = Reads-then next_claim after_claim claim_line rest_of_claim c.claim c
       (Reads-claim c.claim (numbered c.claim c.fold readable.parts)) point in

@@ -12,7 +12,8 @@ use Rattle.mat_files.specs.declared.fault.FaultKind.{FaultKind}
 use Rattle.mat_files.specs.declared.fault.FaultKind.TheVariants as token
 use Rattle.mat_files.specs.declared.fault.TokenFault.{TokenFault}
 use Rattle.mat_files.specs.Tokens.{Token, Left, and_then}
-use Rattle.mat_files.specs.Reading.{Read, refused, number_at, count_at, next_token, next_by, next_word, next_number, next_count}
+use Rattle.mat_files.specs.Reading.{Read, refused, number_at, count_at, next_token, next_by, next_word, next_number}
+use Rattle.mat_files.specs.Reading.{next_count}
 use Rattle.mat_files.specs.Reading.{repeated, next_matrix, only}
 use Rattle.mat_files.specs.MatrixText.{matrix_text}
 use Rattle.certificate.specs.declared.fault.CertKind.{CertKind}
@@ -98,7 +99,8 @@ width_at rows t =
 abbrev pub next_potentials : Left → Read Table
 next_potentials left =
     and_then (next_word (codes "potentials") left) (λ a. and_then (next_size 10001 a.1) (λ rows.
-    and_then (next_by (width_at rows.0) rows.1) (λ cols. and_then (repeated (next_by cell_at) (rows.0 * cols.0) cols.1) (λ cells.
+    and_then (next_by (width_at rows.0) rows.1) (λ cols. and_then (repeated (next_by cell_at) (rows.0 * cols.0) cols.1)
+    (λ cells.
     Ok (table_of rows.0 cols.0 cells.0, cells.1)))))
 
 -- the parts about the linking rows

@@ -37,11 +37,12 @@ const BRICKS: Limits = Limits {
 /// The certificate that a text holds: tokens with white space between them, and nothing else.
 ///
 /// They are the words `nfold-certificate` and `1`; the word `claim` and the claim, which is `optimal`,
-/// `infeasible-link`, or `infeasible-brick` and the brick's number, of at most 10,000; the word `point` and a matrix; the
-/// word `bricks` and a matrix; for a claim on all bricks the word `links` and a matrix, the word `bound` and a count, the
-/// word `sums` and a matrix whose rows begin with a count, and the word `potentials` and a table whose entries are
-/// numbers or `none`; and the word `end`. A matrix or a table is its numbers of rows and columns and then its entries,
-/// row by row. The limits on sizes and entries are those of `Certificate` and `FoldPart`, whatever the program is.
+/// `infeasible-link`, or `infeasible-brick` and the brick's number, of at most 10,000; the word `point` and a matrix;
+/// the word `bricks` and a matrix; for a claim on all bricks the word `links` and a matrix, the word `bound` and a
+/// count, the word `sums` and a matrix whose rows begin with a count, and the word `potentials` and a table whose
+/// entries are numbers or `none`; and the word `end`. A matrix or a table is its numbers of rows and columns and then
+/// its entries, row by row. The limits on sizes and entries are those of `Certificate` and `FoldPart`, whatever the
+/// program is.
 ///
 /// The answer is the fault of the first token that is refused, in the order of the text, or `Memory`. No memory is
 /// asked for before there are entries to keep in it.

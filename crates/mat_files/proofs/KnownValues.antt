@@ -69,14 +69,21 @@ at_the_limit = refl
 pub past_the_limit : spelled (2 ^ 62) (number_of (codes "4611686018427387905")) ≡ TooBig
 past_the_limit = refl
 
-pub far_past_the_limit : spelled (2 ^ 62) (number_of (codes "1000000000000000000000000000000000000000000000000000000000000")) ≡ TooBig
+pub far_past_the_limit : spelled (2 ^ 62)
+    (number_of (codes "1000000000000000000000000000000000000000000000000000000000000")) ≡ TooBig
 far_past_the_limit = refl
 
 -- ---- matrix files
 
 -- up to 16 rows of so many columns
 abbrev shaped : ℕ → ℕ → ℕ → Shape
-shaped cols_from cols_to largest = record { rows_from = 0; rows_to = 16; cols_from = cols_from; cols_to = cols_to; largest = largest }
+shaped cols_from cols_to largest = record {
+  rows_from = 0;
+  rows_to = 16;
+  cols_from = cols_from;
+  cols_to = cols_to;
+  largest = largest;
+}
 
 abbrev parsed : List ℕ → Result Matrix MatFault
 parsed bytes = parsed_matrix (shaped 1 32 (2 ^ 31)) bytes
@@ -87,7 +94,8 @@ matrix cols rows = record { cols = cols; rows = rows }
 pub one_row : parsed (codes "1 2\n1 0\n") ≡ Ok (matrix 2 ((pos 1 ∷ pos 0 ∷ []) ∷ []))
 one_row = refl
 
-pub two_rows : parsed (codes "2\t+02 1\n-0 3 \n -4") ≡ Ok (matrix 2 ((pos 1 ∷ pos 0 ∷ []) ∷ (pos 3 ∷ minus 4 ∷ []) ∷ []))
+pub two_rows : parsed (codes "2\t+02 1\n-0 3 \n -4") ≡ Ok (matrix 2
+    ((pos 1 ∷ pos 0 ∷ []) ∷ (pos 3 ∷ minus 4 ∷ []) ∷ []))
 two_rows = refl
 
 pub no_row : parsed (codes "0 2") ≡ Ok (matrix 2 [])

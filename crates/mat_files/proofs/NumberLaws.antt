@@ -1,5 +1,6 @@
 -- The numbers that digits spell.
-use Rattle.std.proofs.Common.{◌≡◌, ℕ, zero, suc, ◌+◌, ◌-◌, ◌*◌, ◌^◌, ◌<◌, ◌≤◌, min, Bool, cond, leb, List, [], ◌∷◌, length, take, Some, None, refl, arith}
+use Rattle.std.proofs.Common.{◌≡◌, ℕ, zero, suc, ◌+◌, ◌-◌, ◌*◌, ◌^◌, ◌<◌, ◌≤◌, min, Bool, cond, leb, List, [], ◌∷◌}
+use Rattle.std.proofs.Common.{length, take, Some, None, refl, arith}
 use Rattle.std.specs.List.{fold, list_all}
 use Rattle.std.proofs.lemmas.Bool.{lt-leb}
 use Rattle.mat_files.specs.Tokens.{is_digit, is_digits, digits_value}
@@ -17,7 +18,8 @@ step n d = 10 * n + (d - 48)
 -- digits make a number no less
 grows : (n : ℕ) (ds : List ℕ) → n ≤ fold step n ds
 grows n [] = omega arith
-grows n (d ∷ ds) = let more : 10 * n + (d - 48) ≤ fold step (10 * n + (d - 48)) ds = grows (10 * n + (d - 48)) ds in omega arith
+grows n (d ∷ ds) = let more : 10 * n + (d - 48) ≤ fold step (10 * n + (d - 48)) ds = grows (10 * n + (d - 48)) ds in
+    omega arith
 
 -- and one digit makes it ten times as large
 ten_times : (n : ℕ) (ds : List ℕ) (i : ℕ) → i < length ds → 10 * fold step n (take i ds) ≤ fold step n ds

@@ -13,7 +13,8 @@ use Rattle.lattice_theory.specs.Matrices.{Matrix, rows_of}
 use Rattle.mat_files.specs.declared.fault.FaultKind.{FaultKind}
 use Rattle.mat_files.specs.declared.fault.TokenFault.{TokenFault}
 use Rattle.mat_files.specs.Tokens.{is_white, Token, Left, tokens_from, and_then}
-use Rattle.mat_files.specs.Reading.{Read, word_at, number_at, size_at, count_at, next_by, next_word, next_number, next_size}
+use Rattle.mat_files.specs.Reading.{Read, word_at, number_at, size_at, count_at, next_by, next_word, next_number}
+use Rattle.mat_files.specs.Reading.{next_size}
 use Rattle.mat_files.specs.Reading.{next_count, repeated, next_matrix, none_of, only}
 use Rattle.mat_files.specs.MatrixText.{row_text}
 use Rattle.mat_files.proofs.PrintingLaws.{line}
@@ -29,7 +30,8 @@ Reads read text a =
     (end n : ℕ) (rest : List ℕ) → (k : ℕ) × (read (left_from end n (text ++ rest)) ≡ Ok (a, left_from end k rest))
 
 -- a text is all that is read
-pub only-printed : {A : Type 0} (read : Left → Read A) (text : List ℕ) (a : A) → Reads read text a → only read text ≡ Ok a
+pub only-printed : {A : Type 0} (read : Left → Read A) (text : List ℕ) (a : A) → Reads read text a
+    → only read text ≡ Ok a
 only-printed {A = A} read text a reads =
     let last : Read A → Result A TokenFault = λ r. and_then r (λ x. and_then (none_of x.1.tokens) (λ u. Ok x.0)) in
     let all = reads (length text) 0 [] in
@@ -89,7 +91,8 @@ number_at-printed largest n a below small =
     let spells = printed_number a below in rw (spells.no_star, spells.spelled, le-leb _ _ small) refl
 
 -- a printed number
-pub Reads-number : (largest white : ℕ) (a : ℤ) → unsigned_abs a < 10 ^ 64 → unsigned_abs a ≤ largest → is_white white ≡ true
+pub Reads-number : (largest white : ℕ) (a : ℤ) → unsigned_abs a < 10 ^ 64 → unsigned_abs a ≤ largest
+    → is_white white ≡ true
     → Reads (next_number largest) (signed_decimal a ++ white ∷ []) a
 Reads-number largest white a below small space =
     Reads-token (number_at largest) white (signed_decimal a) a (printed_number a below).word space
@@ -171,7 +174,8 @@ module _ {A : Type 0} (spelled : Token → Result A TokenFault) (word : A → Li
   Reads-lines [] cols fits = let none : 0 * cols ≡ 0 = omega arith in rw none (λ end n rest. (n, refl))
   Reads-lines (row ∷ rows) cols fits =
       let sum : suc (length rows) * cols ≡ length row + length rows * cols = omega (arith, fits.0.width) in
-      Reads-line row (length rows * cols) (suc (length rows) * cols) (flat_map (line word) rows) (flat_map (λ r. r) rows)
+      Reads-line row (length rows * cols) (suc (length rows) * cols) (flat_map (line word) rows)
+      (flat_map (λ r. r) rows)
       fits.0.entries sum (Reads-lines rows cols fits.1)
 
 -- ---- matrices
@@ -193,7 +197,8 @@ rows_printed largest m width small below =
     recursion_from_All (IsPrintableRow (number_at largest) signed_decimal m.cols) m.rows (λ k d inside. record {
       width = width k d inside;
       entries = recursion_from_All (IsPrintable (number_at largest) signed_decimal) (get_or m.rows k d) (λ j e there.
-          entry_printed largest (get_or (get_or m.rows k d) j e) (below k d inside j e there) (small k d inside j e there));
+          entry_printed largest (get_or (get_or m.rows k d) j e) (below k d inside j e there)
+          (small k d inside j e there));
     })
 
 -- the rows of all entries are the rows
@@ -212,7 +217,8 @@ pub Reads-entries : (largest : ℕ) (m : Matrix) → All (λ row. length row ≡
     → Reads (next_matrix (length m.rows) m.cols largest) (flat_map row_text m.rows) m
 Reads-entries largest m width small below =
     let made : Vector → Matrix = λ entries. record { cols = m.cols; rows = rows_of (length m.rows) m.cols entries } in
-    let read = Reads-lines (number_at largest) signed_decimal m.rows m.cols (rows_printed largest m width small below) in
+    let read = Reads-lines (number_at largest) signed_decimal m.rows m.cols
+    (rows_printed largest m width small below) in
     let is : made (flat_map (λ row. row) m.rows) ≡ m =
     ap (λ (rs : List Vector). record { cols = m.cols; rows = rs })
     (rows_of-all m.rows m.cols (recursion_from_All (λ row. length row ≡ m.cols) m.rows width)) in

@@ -1,5 +1,6 @@
 -- What is written line by line, and word by word. The crates above may cite this file.
-use Rattle.std.proofs.Common.{◌≡◌, ℕ, zero, suc, ◌+◌, ◌<◌, ◌≤◌, List, [], ◌∷◌, ◌++◌, length, get_or, take, map, flat_map, Some}
+use Rattle.std.proofs.Common.{◌≡◌, ℕ, zero, suc, ◌+◌, ◌<◌, ◌≤◌, List, [], ◌∷◌, ◌++◌, length, get_or, take, map}
+use Rattle.std.proofs.Common.{flat_map, Some}
 use Rattle.std.proofs.Common.{slice_get, refl, ap, sym, ◌∙◌, append_assoc, arith, All, below_more}
 use Rattle.std.specs.List.{join_with_byte}
 use Rattle.std.proofs.lemmas.List.{map_push, take_more, append-nil}
@@ -67,7 +68,8 @@ module _ {A : Type 0} (word : A → List ℕ) where
       → before ++ line row ≡ head ++ flat_map line (take (i + 1) rows)
   line_more rows row i head before inside is written =
       let front : take (i + 1) rows ≡ take i rows ++ row ∷ [] =
-      take_more rows i row inside ∙ ap (λ (r : List A). take i rows ++ r ∷ []) (get_or_from_slice_get rows i row row is) in
+      take_more rows i row inside ∙ ap (λ (r : List A). take i rows ++ r ∷ [])
+      (get_or_from_slice_get rows i row row is) in
       rw (front, flat_map-append line (take i rows) (row ∷ []), written) (simp (append_assoc, append-nil))
 
   module _ (P : List A → Type 0) where

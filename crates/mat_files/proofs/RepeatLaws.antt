@@ -53,7 +53,8 @@ module _ {A : Type 0} (read : Left → Read A) where
       let others = both_ok (repeated read n first.0.1) (λ rest. Ok (first.0.0 ∷ rest.0, rest.1)) (items, now) first.2 in
       let here : others.0.1 ≡ now =
       ap (λ (p : List A × Left). p.1) (same_ok (first.0.0 ∷ others.0.0, others.0.1) (items, now) others.2) in
-      let more = repeated_refused n count first.0.1 now others.0.0 f (omega arith) (others.1 ∙ ap (λ l. Ok (others.0.0, l)) here) refused in
+      let more = repeated_refused n count first.0.1 now others.0.0 f (omega arith) (others.1
+      ∙ ap (λ l. Ok (others.0.0, l)) here) refused in
       let put : A → Read (List A) → Read (List A) = λ x rest. and_then rest (λ r. Ok (x ∷ r.0, r.1)) in
       ap (λ (r : Read A). and_then r (λ x. put x.0 (repeated read count x.1))) first.1 ∙ ap (put first.0.0) more
 
@@ -64,9 +65,11 @@ module _ {A : Type 0} (read : Left → Read A) where
       ap (λ (p : List A × Left). length p.0) (sym (same_ok ([], start) (items, after) is))
   repeated_many (suc n) start after items is =
       let first = both_ok (read start) _ (items, after) is in
-      let others = both_ok (repeated read n first.0.1) (λ rest. Ok (first.0.0 ∷ rest.0, rest.1)) (items, after) first.2 in
+      let others = both_ok (repeated read n first.0.1) (λ rest. Ok (first.0.0 ∷ rest.0, rest.1)) (items, after)
+      first.2 in
       let same = same_ok (first.0.0 ∷ others.0.0, others.0.1) (items, after) others.2 in
-      ap (λ (p : List A × Left). length p.0) (sym same) ∙ ap suc (repeated_many n first.0.1 others.0.1 others.0.0 others.1)
+      ap (λ (p : List A × Left). length p.0) (sym same) ∙ ap suc
+      (repeated_many n first.0.1 others.0.1 others.0.0 others.1)
 
   -- what holds of whatever is read holds of all
   pub repeated_all : (P : A → Type 0) → ((now after : Left) (a : A) → read now ≡ Ok (a, after) → P a)
@@ -75,7 +78,8 @@ module _ {A : Type 0} (read : Left → Read A) where
       subst (λ (p : List A × Left). All P p.0) (same_ok ([], start) (items, after) is) (All-nil P)
   repeated_all P each (suc n) start after items is =
       let first = both_ok (read start) _ (items, after) is in
-      let others = both_ok (repeated read n first.0.1) (λ rest. Ok (first.0.0 ∷ rest.0, rest.1)) (items, after) first.2 in
+      let others = both_ok (repeated read n first.0.1) (λ rest. Ok (first.0.0 ∷ rest.0, rest.1)) (items, after)
+      first.2 in
       subst (λ (p : List A × Left). All P p.0) (same_ok (first.0.0 ∷ others.0.0, others.0.1) (items, after) others.2)
       (All-cons P first.0.0 others.0.0 (each start first.0.1 first.0.0 first.1)
       (repeated_all P each n first.0.1 others.0.1 others.0.0 others.1))

@@ -22,14 +22,17 @@ parsed_matrix-text s m admits few_rows few_cols narrow =
     let col_word = decimal m.cols ++ 10 ∷ [] in
     let text : matrix_text m ≡ row_word ++ (col_word ++ body) = simp append_assoc in
     let entries = Reads-entries s.largest m admits.width admits.entries below in
-    let from_cols = Reads-then (next_size s.cols_from s.cols_to) (λ cols left. next_matrix r cols s.largest left) col_word body
-    m.cols m (Reads-size s.cols_from s.cols_to 10 m.cols admits.least_cols admits.most_cols (omega arith) refl) entries in
+    let from_cols = Reads-then (next_size s.cols_from s.cols_to) (λ cols left. next_matrix r cols s.largest left)
+    col_word body
+    m.cols m (Reads-size s.cols_from s.cols_to 10 m.cols admits.least_cols admits.most_cols (omega arith) refl)
+    entries in
     let from_rows : Reads (next_shaped s) (row_word ++ (col_word ++ body)) m =
     Reads-then (next_size s.rows_from s.rows_to)
     (λ rows left. and_then (next_size s.cols_from s.cols_to left) (λ cols. next_matrix rows cols.0 s.largest cols.1))
     row_word (col_word ++ body) r m
     (Reads-size s.rows_from s.rows_to 32 r admits.least_rows admits.most_rows (omega arith) refl) from_cols in
-    ap mat_answer (only-printed (next_shaped s) (matrix_text m) m (subst (λ t. Reads (next_shaped s) t m) (sym text) from_rows))
+    ap mat_answer (only-printed (next_shaped s) (matrix_text m) m
+    (subst (λ t. Reads (next_shaped s) t m) (sym text) from_rows))
   where
     below : All (λ row. All (λ a. unsigned_abs a < 10 ^ 64) row) m.rows
     below k d inside j e there =

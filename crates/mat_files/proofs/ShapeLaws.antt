@@ -12,7 +12,8 @@ use Rattle.mat_files.specs.declared.fault.FaultKind.{FaultKind}
 use Rattle.mat_files.specs.declared.fault.FaultKind.TheVariants as kind
 use Rattle.mat_files.specs.declared.fault.TokenFault.{TokenFault}
 use Rattle.mat_files.specs.Tokens.{Token, Left, whole, number_of, count_of, and_then}
-use Rattle.mat_files.specs.Reading.{refused, number_at, size_at, count_at, next_token, next_by, next_number, next_size, next_count, repeated, none_of, only, IsAdded}
+use Rattle.mat_files.specs.Reading.{refused, number_at, size_at, count_at, next_token, next_by, next_number, next_size}
+use Rattle.mat_files.specs.Reading.{next_count, repeated, none_of, only, IsAdded}
 use Rattle.mat_files.specs.MatrixText.{next_shaped, mat_answer, parsed_matrix, Admits}
 use Rattle.mat_files.proofs.RepeatLaws.{both_ok, same_ok, repeated_many, repeated_all}
 use Rattle.mat_files.proofs.MatrixLaws.{length_rows_of, even_rows}
@@ -26,7 +27,8 @@ not_refused true f read a is = absurd (cc)
 not_refused false f read a is = is
 
 -- something is given only where the test holds
-pub accepted : {A E : Type 0} (test : Bool) (x a : A) (f : E) → cond test (Ok x) (Err f) ≡ Ok a → (test ≡ true) × (x ≡ a)
+pub accepted : {A E : Type 0} (test : Bool) (x a : A) (f : E) → cond test (Ok x) (Err f) ≡ Ok a
+    → (test ≡ true) × (x ≡ a)
 accepted true x a f is = (refl, cc)
 accepted false x a f is = absurd (cc)
 
@@ -111,7 +113,8 @@ next_size_within from to now after n is =
 pub next_count_within : (from to : ℕ) (outside : FaultKind) (now after : Left) (n : ℕ)
     → next_count from to outside now ≡ Ok (n, after) → (from ≤ n) × (n ≤ to)
 next_count_within from to outside now after n is =
-    let token = next_by_ok (count_at from to outside) now after n is in count_at_within from to outside token.0 n token.1
+    let token = next_by_ok (count_at from to outside) now after n is in count_at_within from to outside token.0 n
+    token.1
 
 -- the numbers that are read behind nothing
 pub numbers_read : (largest n : ℕ) (start after : Left) (before now : Vector) → before ≡ []
@@ -128,7 +131,8 @@ numbers_read largest n start after before now none added =
 -- ---- matrices
 
 -- what holds of each entry holds of each entry of each row
-pub All-rows_of : (P : ℤ → Type 0) (n cols : ℕ) (entries : Vector) → All P entries → All (All P) (rows_of n cols entries)
+pub All-rows_of : (P : ℤ → Type 0) (n cols : ℕ) (entries : Vector) → All P entries
+    → All (All P) (rows_of n cols entries)
 All-rows_of P zero cols entries all = All-nil _
 All-rows_of P (suc n) cols entries all =
     All-cons (All P) (take cols entries) (rows_of n cols (drop cols entries)) (All-take P cols entries all)
@@ -145,12 +149,14 @@ parsed_admits s bytes m is =
     let c = next_size_within s.cols_from s.cols_to rows.0.1 cols.0.1 cols.0.0 cols.1 in
     let entries = both_ok (repeated (next_number s.largest) (rows.0.0 * cols.0.0) cols.0.1) _ all.0 cols.2 in
     let many = repeated_many (next_number s.largest) (rows.0.0 * cols.0.0) cols.0.1 entries.0.1 entries.0.0 entries.1 in
-    let small = repeated_all (next_number s.largest) (λ (a : ℤ). unsigned_abs a ≤ s.largest) (next_number_small s.largest) (rows.0.0 * cols.0.0) cols.0.1 entries.0.1 entries.0.0 entries.1 in
+    let small = repeated_all (next_number s.largest) (λ (a : ℤ). unsigned_abs a ≤ s.largest)
+    (next_number_small s.largest) (rows.0.0 * cols.0.0) cols.0.1 entries.0.1 entries.0.0 entries.1 in
     let made : Matrix = record { cols = cols.0.0; rows = rows_of rows.0.0 cols.0.0 entries.0.0 } in
     let same : made ≡ all.0.0 = ap (λ (p : Matrix × Left). p.0) (same_ok (made, entries.0.1) all.0 entries.2) in
     let last = both_ok (none_of all.0.1.tokens) (λ u. Ok all.0.0) m all.2 in
     let whole_is : made ≡ m = same ∙ same_ok all.0.0 m last.2 in
-    let height : length (rows_of rows.0.0 cols.0.0 entries.0.0) ≡ rows.0.0 = length_rows_of rows.0.0 cols.0.0 entries.0.0 in
+    let height : length (rows_of rows.0.0 cols.0.0 entries.0.0) ≡ rows.0.0 = length_rows_of rows.0.0 cols.0.0
+    entries.0.0 in
     subst (Admits s) whole_is (record {
       least_rows = omega (arith, height, r.0);
       most_rows = omega (arith, height, r.1);

@@ -1,5 +1,6 @@
 -- The first token of a text: what stands after the white space at the front, up to the next white space.
-use Rattle.std.proofs.Common.{◌≡◌, ℕ, suc, ◌+◌, ◌<◌, true, false, not, List, [], ◌∷◌, length, take, drop, refl, ap, sym, ◌∙◌, arith, inl, inr, add-one, one-add, ◌-◌}
+use Rattle.std.proofs.Common.{◌≡◌, ℕ, suc, ◌+◌, ◌<◌, true, false, not, List, [], ◌∷◌, length, take, drop, refl, ap, sym}
+use Rattle.std.proofs.Common.{◌∙◌, arith, inl, inr, add-one, one-add, ◌-◌}
 use Rattle.std.specs.List.{prefix_len}
 use Rattle.std.proofs.lemmas.Bool.{cases_Bool}
 use Rattle.std.proofs.lemmas.List.{drop-drop, take_all, length-drop, length-take}
@@ -49,7 +50,8 @@ skip_white n (b ∷ bs) =
           ∙ ap (λ k. tokens_from (n + k) (drop k (b ∷ bs))) (sym (white_len-white b bs white))
       | inr black ↦
           let none : n ≡ n + 0 = omega arith in
-          ap (λ m. tokens_from m (b ∷ bs)) none ∙ ap (λ k. tokens_from (n + k) (drop k (b ∷ bs))) (sym (white_len-black b bs black))
+          ap (λ m. tokens_from m (b ∷ bs)) none ∙ ap (λ k. tokens_from (n + k) (drop k (b ∷ bs)))
+          (sym (white_len-black b bs black))
     ]
 
 -- no white space stands after it
@@ -57,7 +59,8 @@ no_white_left : (bs : List ℕ) → white_len (drop (white_len bs) bs) ≡ 0
 no_white_left [] = refl
 no_white_left (b ∷ bs) =
     elim (cases_Bool (is_white b)) [
-      | inl white ↦ ap (λ k. white_len (drop k (b ∷ bs))) (white_len-white b bs white ∙ one-add (white_len bs)) ∙ no_white_left bs
+      | inl white ↦ ap (λ k. white_len (drop k (b ∷ bs))) (white_len-white b bs white ∙ one-add (white_len bs))
+          ∙ no_white_left bs
       | inr black ↦ ap (λ k. white_len (drop k (b ∷ bs))) (white_len-black b bs black) ∙ white_len-black b bs black
     ]
 
@@ -100,7 +103,8 @@ token_at n [] none some = absurd (omega arith)
 token_at n (b ∷ bs) none some =
     elim (cases_Bool (is_white b)) [
       | inl white ↦ let one = white_len-white b bs white in absurd (omega arith)
-      | inr black ↦ token_front n b bs black ∙ ap (first_then n (b ∷ bs)) (sym (one-add (token_len bs)) ∙ sym (token_len-black b bs black))
+      | inr black ↦ token_front n b bs black ∙ ap (first_then n (b ∷ bs)) (sym (one-add (token_len bs))
+          ∙ sym (token_len-black b bs black))
     ]
 
 -- where neither white space nor a token is at the front, nothing is
@@ -151,7 +155,8 @@ module _ {at white size : ℕ} {bytes left text : List ℕ} (scanned : IsScanned
       ≡ record { at = at + white; text = text } ∷ tokens_from (at + white + size) (drop (at + white + size) bytes)
   scanned_token some =
       let long : 0 < length left = omega (arith, ap length scanned.text_is, length-take size left) in
-      let after : drop size left ≡ drop (at + white + size) bytes = ap (drop size) left_from ∙ drop-drop size (at + white) bytes in
+      let after : drop size left ≡ drop (at + white + size) bytes = ap (drop size) left_from
+      ∙ drop-drop size (at + white) bytes in
       skipped ∙ token_at (at + white) left black long ∙ ap (first_then (at + white) left) (sym scanned.size_is)
       ∙ (λ i. record { at = at + white; text = sym scanned.text_is i } ∷ tokens_from (at + white + size) (after i))
 

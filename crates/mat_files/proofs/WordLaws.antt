@@ -1,5 +1,6 @@
 -- Words in a text, and the numbers that printed words spell. The crates above may cite this file.
-use Rattle.std.proofs.Common.{◌≡◌, ℕ, suc, ◌+◌, ◌-◌, ◌*◌, ◌/◌, ◌%◌, ◌^◌, ◌<◌, ◌≤◌, ℤ, pos, negsuc, neg_ℤ, unsigned_abs, Bool}
+use Rattle.std.proofs.Common.{◌≡◌, ℕ, suc, ◌+◌, ◌-◌, ◌*◌, ◌/◌, ◌%◌, ◌^◌, ◌<◌, ◌≤◌, ℤ, pos, negsuc, neg_ℤ, unsigned_abs}
+use Rattle.std.proofs.Common.{Bool}
 use Rattle.std.proofs.Common.{true, false, not, eqb, leb, ◌&&◌, List, [], ◌∷◌, ◌++◌, length, Some, refl, ap, ◌∙◌}
 use Rattle.std.proofs.Common.{subst, arith, codes}
 use Rattle.std.specs.Fmt.{decimal, signed_decimal}
@@ -9,7 +10,8 @@ use Rattle.std.proofs.lemmas.Bool.{le-leb, leb-true, ne_eqb}
 use Rattle.std.proofs.lemmas.Bool.Decides.{nat_tests}
 use Rattle.std.proofs.lemmas.Fmt.{decimal_by_steps_wide}
 use Rattle.std.proofs.lemmas.List.{length-append}
-use Rattle.mat_files.specs.Tokens.{is_white, Token, put_before, tokens_from, is_digit, digits_value, number_of, count_of}
+use Rattle.mat_files.specs.Tokens.{is_white, Token, put_before, tokens_from, is_digit, digits_value, number_of}
+use Rattle.mat_files.specs.Tokens.{count_of}
 
 -- ---- words
 
@@ -166,7 +168,8 @@ minus_digits_number (d ∷ ds) some all = record {
 -- a printed count spells that count
 pub printed_count : (n : ℕ) → n < 10 ^ 64 → SpellsCount (decimal n) n
 printed_count n below =
-    let are = decimal_digits n below in subst (SpellsCount (decimal n)) are.value (digits_count (decimal n) are.some are.digits)
+    let are = decimal_digits n below in subst (SpellsCount (decimal n)) are.value
+    (digits_count (decimal n) are.some are.digits)
 
 -- a printed number spells that number
 pub printed_number : (a : ℤ) → unsigned_abs a < 10 ^ 64 → SpellsNumber (signed_decimal a) a

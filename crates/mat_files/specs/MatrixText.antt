@@ -1,5 +1,6 @@
 -- Matrix files: what is accepted, the first fault of what is not, and the text of a matrix.
-use Rattle.std.specs.Prelude.{◌≡◌, ℕ, ◌≤◌, unsigned_abs, List, [], ◌∷◌, ◌++◌, All, map, length, flat_map, Result, Ok, Err}
+use Rattle.std.specs.Prelude.{◌≡◌, ℕ, ◌≤◌, unsigned_abs, List, [], ◌∷◌, ◌++◌, All, map, length, flat_map, Result, Ok}
+use Rattle.std.specs.Prelude.{Err}
 use Rattle.std.specs.Fmt.{decimal, signed_decimal}
 use Rattle.std.specs.List.{join_with_byte}
 use Rattle.lattice_theory.specs.Vectors.{Vector}

@@ -1,5 +1,7 @@
 -- Tokens of a file, and the numbers that they spell.
-use Rattle.std.specs.Prelude.{◌≡◌, ℕ, suc, ◌+◌, ◌-◌, ◌*◌, ◌≤◌, ℤ, pos, neg_ℤ, unsigned_abs, nat_eq, nat_le, Bool, true, false, ◌&&◌, ◌||◌, not, List, [], ◌∷◌, cond, Option, Some, None, Result, Ok, Err, fold, length}
+use Rattle.std.specs.Prelude.{◌≡◌, ℕ, suc, ◌+◌, ◌-◌, ◌*◌, ◌≤◌, ℤ, pos, neg_ℤ, unsigned_abs, nat_eq, nat_le, Bool, true}
+use Rattle.std.specs.Prelude.{false, ◌&&◌, ◌||◌, not, List, [], ◌∷◌, cond, Option, Some, None, Result, Ok, Err, fold}
+use Rattle.std.specs.Prelude.{length}
 use Rattle.std.specs.List.{list_all}
 use Rattle.mat_files.specs.declared.tokens.Token as rust
 use Rattle.mat_files.specs.declared.numbers.Spelled.{Spelled}

@@ -1,5 +1,5 @@
-//! Matrices of whole numbers, and the text files that hold them; and the reader of tokens, on which each kind of text file
-//! stands.
+//! Matrices of whole numbers, and the text files that hold them; and the reader of tokens, on which each kind of text
+//! file stands.
 #![tactic(auto)]
 
 mod fault;

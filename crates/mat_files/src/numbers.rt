@@ -3,7 +3,8 @@
 
 ghost use Rattle.std.specs.Prelude.{◌≡◌, ◌≤◌, ◌^◌, pos, true, nat_le, cond, Some, None};
 ghost use Rattle.std.specs.List.{list_all};
-ghost use Rattle.mat_files.specs.Tokens.{is_digit, is_digits, digits_value, digits_of, signed, number_of, count_of, spelled, IsAtMost};
+ghost use Rattle.mat_files.specs.Tokens.{is_digit, is_digits, digits_value, digits_of, signed, number_of, count_of};
+ghost use Rattle.mat_files.specs.Tokens.{spelled, IsAtMost};
 
 /// What a token spells, where a number of at most some absolute value is wanted.
 #[derive(Clone, Copy, Debug, PartialEq, Eq)]

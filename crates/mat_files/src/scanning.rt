@@ -14,7 +14,8 @@ impl<'a> Scanner<'a> {
     /// The next token. The fault is `EndsEarly`, at the end of the text, where none is left, here and in each call
     /// below.
     pub fn token(&mut self) -> Result<Token<'a>, TokenFault>
-        ensures { MatchResult result (λ t. next_token self.old ≡ Ok (seen t, self.new)) (λ f. next_token self.old ≡ Err f) }
+        ensures { MatchResult result (λ t. next_token self.old ≡ Ok (seen t, self.new))
+            (λ f. next_token self.old ≡ Err f) }
     {
         match self.next() {
             Some(token) => Ok(token),

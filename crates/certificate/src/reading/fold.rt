@@ -27,7 +27,8 @@ const CELLS: u64 = 1 << 20;
 
 /// The parts about the linking rows.
 pub(super) fn fold(alloc: Global, tokens: &mut Scanner<'_>) -> Result<FoldPart, TokenFault>
-    ensures read { MatchResult result (λ f. next_fold tokens.old ≡ Ok (f, tokens.new)) (IsTokenFault (next_fold tokens.old)) }
+    ensures read { MatchResult result (λ f. next_fold tokens.old ≡ Ok (f, tokens.new))
+        (IsTokenFault (next_fold tokens.old)) }
     ensures readable { IfOk result IsReadablePart }
 {
     let links = part(alloc, tokens, b"links", &LINKS)?;
@@ -50,7 +51,8 @@ fn bound(tokens: &mut Scanner<'_>) -> Result<u64, TokenFault>
 
 /// The word `sums`, and the matrix of the sums with their levels.
 fn sums(alloc: Global, tokens: &mut Scanner<'_>) -> Result<Matrix, TokenFault>
-    ensures read { MatchResult result (λ m. next_sums tokens.old ≡ Ok (m, tokens.new)) (IsTokenFault (next_sums tokens.old)) }
+    ensures read { MatchResult result (λ m. next_sums tokens.old ≡ Ok (m, tokens.new))
+        (IsTokenFault (next_sums tokens.old)) }
     ensures rows { IfOk result (λ m. length m.rows ≤ 20000) }
     ensures cols { IfOk result (λ m. m.cols ≤ 33) }
     ensures entries { IfOk result (λ m. All IsSumRow m.rows) }
@@ -69,7 +71,8 @@ fn sum_rows(
     rows: u32,
     cols: u32,
 ) -> Result<Vec<i64>, TokenFault>
-    ensures read { MatchResult result (λ v. repeated (next_sum cols) rows tokens.old ≡ Ok (rows_of rows cols v.items, tokens.new))
+    ensures read { MatchResult result
+        (λ v. repeated (next_sum cols) rows tokens.old ≡ Ok (rows_of rows cols v.items, tokens.new))
         (IsTokenFault (repeated (next_sum cols) rows tokens.old)) }
     ensures all { IfOk result (λ v. length v.items ≡ rows * cols) }
 {
@@ -82,7 +85,8 @@ fn sum_rows(
 
 /// Adds the entries of the next row of sums: the level, and then the sum. There is no level where there is no column.
 fn add_sum(tokens: &mut Scanner<'_>, entries: &mut Vec<i64>, cols: u32) -> Result<(), TokenFault>
-    ensures { MatchResult result (λ _. IsAdded (next_sum cols tokens.old) entries.old.items entries.new.items tokens.new)
+    ensures { MatchResult result
+        (λ _. IsAdded (next_sum cols tokens.old) entries.old.items entries.new.items tokens.new)
         (IsTokenFault (next_sum cols tokens.old)) }
 {
     if cols == 0 {

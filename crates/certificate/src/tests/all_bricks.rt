@@ -7,8 +7,34 @@ use std::alloc::{AllocError, Global};
 use std::test::Fail;
 
 /// Two bricks of two variables at most 4 with the sum 4, whose first variables have the sum 3.
-const PARTS: &str =
-    "point\n2 2\n1 3\n2 2\nbricks\n3 3\n0 1 1\n1 -1 0\n1 0 1\nlinks\n1 2\n1 1\nbound 2\nsums\n5 3\n2 -2 2\n1 -1 1\n0 0 0\n1 1 -1\n2 2 -2\npotentials\n3 5\n8 3 0 -3 -4\n12 5 0 -3 -4\nnone none 0 none none\nend\n";
+const PARTS: &str = "\
+point
+2 2
+1 3
+2 2
+bricks
+3 3
+0 1 1
+1 -1 0
+1 0 1
+links
+1 2
+1 1
+bound 2
+sums
+5 3
+2 -2 2
+1 -1 1
+0 0 0
+1 1 -1
+2 2 -2
+potentials
+3 5
+8 3 0 -3 -4
+12 5 0 -3 -4
+none none 0 none none
+end
+";
 
 fn text_of(alloc: Global, claim: &str) -> Result<Vec<u8>, AllocError> {
     let mut text = Vec::from_slice(alloc, b"nfold-certificate 1\nclaim ")?;

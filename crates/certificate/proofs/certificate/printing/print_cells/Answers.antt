@@ -1,4 +1,5 @@
-use Rattle.std.proofs.Common.{◌≡◌, ℕ, ℤ, List, ap, ◌∙◌, ◌++◌, ◌∷◌, [], map, take, get_or, Option, None, append_assoc, arith}
+use Rattle.std.proofs.Common.{◌≡◌, ℕ, ℤ, List, ap, ◌∙◌, ◌++◌, ◌∷◌, [], map, take, get_or, Option, None, append_assoc}
+use Rattle.std.proofs.Common.{arith}
 use Rattle.std.specs.List.{join_with_byte}
 use Rattle.std.proofs.lemmas.List.{take_all}
 use Rattle.mat_files.proofs.PrintingLaws.{first_word_written, next_word_written}
@@ -12,8 +13,10 @@ loop-i-preserved c =
     let old = c.args.out.now.items in
     elim c.if-i-gt0.branch [
       | then-i-gt0+in_ok-push w ↦
-          c.in_ok-print_cell.ensures ∙ next_word_written cell_text row c.loop-i.i None old c.loop-i.out.items c.if-i-gt0.out.items
-          c.loop-i-test.true w.if-i-gt0.true c.loop-i.invariant (ap (λ t. t.items) w.out-is ∙ w.in_ok-push.ensures.items)
+          c.in_ok-print_cell.ensures ∙ next_word_written cell_text row c.loop-i.i None old c.loop-i.out.items
+          c.if-i-gt0.out.items
+          c.loop-i-test.true w.if-i-gt0.true c.loop-i.invariant (ap (λ t. t.items) w.out-is
+          ∙ w.in_ok-push.ensures.items)
       | else-i-gt0 w ↦
           c.in_ok-print_cell.ensures ∙ first_word_written cell_text row c.loop-i.i None old c.if-i-gt0.out.items
           c.loop-i-test.true w.if-i-gt0.false (ap (λ t. t.items) w.out-is ∙ c.loop-i.invariant)

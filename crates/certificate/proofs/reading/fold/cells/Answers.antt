@@ -14,5 +14,6 @@ returns-in_err-cell c =
 pub loop-preserved : goal.loop-preserved
 loop-preserved c =
     let pushed : c.push.new.self.items ≡ c.loop.cells.items ++ c.in_ok-cell.field-0 ∷ [] = c.in_ok-push.ensures.items in
-    rw pushed (one_more_read (next_by cell_at) c.loop.counter c.args.tokens.now c.loop.tokens c.cell.new.tokens c.loop.cells.items
+    rw pushed (one_more_read (next_by cell_at) c.loop.counter c.args.tokens.now c.loop.tokens c.cell.new.tokens
+    c.loop.cells.items
     c.in_ok-cell.field-0 c.loop.invariant c.in_ok-cell.ensures)

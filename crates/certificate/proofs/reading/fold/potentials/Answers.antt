@@ -12,7 +12,8 @@ pub new-requires : goal.new-requires
 new-requires c =
     let product : c.from.result * c.from-2.result ≡ c.in_ok-rows.rows * c.in_ok-cols.cols =
     rw (c.from.ensures, c.from-2.ensures) refl in
-    repeated_many (next_by cell_at) (c.from.result * c.from-2.result) c.width.new.tokens c.cells.new.tokens c.in_ok-cells.cells.items
+    repeated_many (next_by cell_at) (c.from.result * c.from-2.result) c.width.new.tokens c.cells.new.tokens
+    c.in_ok-cells.cells.items
     c.in_ok-cells.ensures.read ∙ product
 
 pub returns-clause-rows : goal.returns-clause-rows

@@ -6,5 +6,10 @@ pub returns-clause-cells : goal.returns-clause-cells
 returns-clause-cells c =
     let rows = ap (λ t. length t.rows) c.self.view_is in
     let inside : c.args.row < c.self.inside.rows =
-    omega (arith, rows, length_table_rows c.self.inside.rows c.self.inside.cols c.self.inside.cells.items, c.requires) in
+    omega (
+      arith,
+      rows,
+      length_table_rows c.self.inside.rows c.self.inside.cols c.self.inside.cells.items,
+      c.requires,
+    ) in
     sym (ap (λ t. slice_get t.rows c.args.row) c.self.view_is) ∙ row_read _ _ _ _ _ inside c.deref.ensures.value

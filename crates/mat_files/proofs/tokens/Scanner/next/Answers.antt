@@ -5,7 +5,8 @@ use Rattle.mat_files.proofs.tokens.Scanner.next.Goals as goal
 use Rattle.mat_files.proofs.tokens.Scanner.next.Goals.{After-split_at-2}
 
 -- what was cut off is white space and then a token
-cut : (c : After-split_at-2) → IsScanned c.self.inside.at (length c.split_at.result.0.now) (length c.split_at-2.result.0.now)
+cut : (c : After-split_at-2) → IsScanned c.self.inside.at (length c.split_at.result.0.now)
+    (length c.split_at-2.result.0.now)
     c.self.inside.bytes.now c.split_at.result.1.now c.split_at-2.result.0.now
 cut c =
     let bytes = c.self.inside.bytes.now in
