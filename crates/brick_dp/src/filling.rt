@@ -13,7 +13,7 @@ use crate::ends::last_layer;
 use crate::folds::Fold;
 use crate::menus::Menus;
 use fold_program::Point;
-use layer_sieve::{Layers, Moves, PricedMove, Targets, lower_by};
+use layer_sieve::{Layers, Moves, PricedMove, Targets, lower_by, widen};
 use std::alloc::{AllocError, Global};
 
 /// All layers of walks from a point with steps of `2^k`, the last one first. A brick whose moves can lower no cell
@@ -84,8 +84,8 @@ fn add_layer(
     ensures counted { moves.new ≤ moves.old + length menu.now * length targets.now }
 {
     if lower_by(targets, menu, layers.get(last), layer, tops, moves) {
+        widen(targets, layers.get(last), layer, tops);
         layers.push(alloc, layer)?;
-        tops.fill(None);
     } else {
         layers.repeat()?;
     }

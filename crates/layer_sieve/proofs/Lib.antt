@@ -3,3 +3,4 @@ pub mod SumLaws
 pub mod TargetLaws
 pub mod ReachLaws
 pub mod FlagLaws
+pub mod WiderLaws

@@ -1,3 +1,4 @@
 pub mod Targets
 pub mod Reaching
 pub mod Layers
+pub mod Falls

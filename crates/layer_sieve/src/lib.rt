@@ -19,3 +19,4 @@ pub use lowering::lower_by;
 pub use moves::Moves;
 pub use sieve_laws::PricedMove;
 pub use targets::Targets;
+pub use tops::widen;

@@ -6,12 +6,14 @@ ghost use Rattle.lattice_theory.specs.Vectors.{is_rising};
 ghost use Rattle.lattice_theory.specs.SignedSums.{vectors};
 ghost use Rattle.sieve_laws.specs.Sieve.{IsTop, IsIdle, AreTops};
 ghost use Rattle.layer_sieve.specs.Reaching.{AreAtMost, IsFair};
+ghost use Rattle.layer_sieve.specs.Falls.{AreKept, IsLow, IsWider, IsSpread};
 
 use crate::reaching::reached_from;
 use crate::targets::Targets;
 use sieve_laws::PricedMove;
 
-/// Whether it is known of the move that it lowers no cell. `tops` has a bound for each move, once it was asked for.
+/// Whether the move lowers no cell. `tops` has bounds for the moves, which may be wide; one that does not show it is made
+/// anew for the layer.
 pub(crate) fn is_idle(
     targets: &Targets,
     next: &[Option<i128>],
@@ -27,11 +29,18 @@ pub(crate) fn is_idle(
     ensures tops { AreTops (vectors targets.now) next.now tops.new }
 {
     let at = m.place as usize;
-    if tops[at].is_none() {
+    if !is_low(tops[at], m.change) {
         tops[at] = top(targets, next, m.place);
     }
-    match tops[at] {
-        Some(top) => top <= m.change,
+    is_low(tops[at], m.change)
+}
+
+/// Whether a bound is known that is no more than the change.
+fn is_low(top: Option<i128>, change: i128) -> bool
+    ensures { OnTrue result (IsLow top change) }
+{
+    match top {
+        Some(top) => top <= change,
         None => false,
     }
 }
@@ -53,4 +62,46 @@ fn top(targets: &Targets, next: &[Option<i128>], h: u32) -> Option<i128>
         }
     }
     Some(top)
+}
+
+/// Makes the bounds over a layer of those over the next one, from whose cells those of the layer fell: each widens by
+/// the spread of the falls. None is known any more where a cell is new.
+pub fn widen(
+    _targets: &Targets,
+    next: &[Option<i128>],
+    layer: &[Option<i128>],
+    tops: &mut [Option<i128>],
+)
+    requires size { length layer.now ≡ length next.now }
+    requires kept { AreKept next.now layer.now }
+    requires tops { AreTops (vectors _targets.now) next.now tops.old }
+    ensures { AreTops (vectors _targets.now) layer.now tops.new }
+{
+    let spread = spread(next, layer);
+    for h in 0..tops.len() {
+        tops[h] = wider(tops[h], spread);
+    }
+}
+
+/// A bound that is wider by so much, where both are known.
+fn wider(top: Option<i128>, spread: Option<i128>) -> Option<i128>
+    ensures { IfSome result (IsWider top spread) }
+{
+    top?.checked_add(spread?)
+}
+
+/// How much more the cell fell that fell most than the one that fell least; none where a cell is new.
+fn spread(next: &[Option<i128>], layer: &[Option<i128>]) -> Option<i128>
+    requires size { length layer.now ≡ length next.now }
+    ensures { IfSome result (IsSpread next.now layer.now) }
+{
+    let (mut least, mut most) = (i128::MAX, i128::MIN);
+    for at in 0..next.len() {
+        if let Some(after) = layer[at] {
+            let fall = next[at]?.checked_sub(after)?;
+            least = least.min(fall);
+            most = most.max(fall);
+        }
+    }
+    most.checked_sub(least)
 }

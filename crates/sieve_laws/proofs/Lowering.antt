@@ -237,3 +237,8 @@ module _ (zs : List Vector) (rising : is_rising zs ≡ true) where
     attained = all.attained;
     least = λ w i c goes. all.least w i c (slice_get_within menu i goes.move goes.there) goes;
   }
+
+  -- no cell of the layer is above that of the next one
+  pub never_above : (menu : Menu) (next layer : Layer) → MayStay zs menu next → IsLayerOver zs menu next layer → (w : ℕ) (c : ℤ) →
+      slice_get next w ≡ Some (Some c) → IsAtMost layer w c
+  never_above menu next layer stay over w c cell = let goes = stay w c cell in over.least w goes.0 c goes.1

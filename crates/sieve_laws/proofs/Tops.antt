@@ -80,3 +80,50 @@ module _ (zs : List Vector) (next : Layer) where
           subst (λ j. IsTop zs next j top) (sym same) (new top (at_same (slice_get (set tops h found) h) found (Some top) set_here here))
       by i top there (inr (inl before)) = are.each i top (sym (slice_get-set_other tops h i found (λ e. omega (arith, before, e))) ∙ there)
       by i top there (inr (inr behind)) = are.each i top (sym (slice_get-set_other tops h i found (λ e. omega (arith, behind, e))) ∙ there)
+
+-- ---- bounds over a layer from those over the next one
+
+module _ (next layer : Layer) where
+  -- each cell that is there among the first n fell from one of the next layer, by at least and at most so much
+  abbrev pub FallsBetween : ℤ → ℤ → ℕ → Type 0
+  FallsBetween least most n =
+      (w : ℕ) (a : ℤ) → w < n → slice_get layer w ≡ Some (Some a) → (b : ℤ) × (slice_get next w ≡ Some (Some b)) × (least ≤ℤ (b -ℤ a)) × ((b -ℤ a) ≤ℤ most)
+
+  pub falls_none : (least most : ℤ) → FallsBetween least most 0
+  falls_none least most w a low there = absurd (omega (arith, low))
+
+  -- a cell that is not there
+  pub falls_empty : (least most : ℤ) (n : ℕ) → slice_get layer n ≡ Some None → FallsBetween least most n → FallsBetween least most (n + 1)
+  falls_empty least most n none so_far w a low there = by (cases_lt w n)
+    where
+      by : (w < n) ⊎ (n ≤ w) → (b : ℤ) × (slice_get next w ≡ Some (Some b)) × (least ≤ℤ (b -ℤ a)) × ((b -ℤ a) ≤ℤ most)
+      by (inl before) = so_far w a before there
+      by (inr high) =
+          let last : n ≡ w = omega (arith, low, high) in
+          let other : Some a ≡ None = at_same (slice_get layer w) (Some a) None there (ap (slice_get layer) (sym last) ∙ none) in
+          absurd (cc)
+
+  -- one that fell from b to a
+  pub falls_more : (least most less more : ℤ) (n : ℕ) (a b : ℤ) → slice_get layer n ≡ Some (Some a) → slice_get next n ≡ Some (Some b) →
+      less ≤ℤ least → most ≤ℤ more → less ≤ℤ (b -ℤ a) → (b -ℤ a) ≤ℤ more → FallsBetween least most n → FallsBetween less more (n + 1)
+  falls_more least most less more n a b here before down up low high so_far w e under there = by (cases_lt w n)
+    where
+      by : (w < n) ⊎ (n ≤ w) → (b : ℤ) × (slice_get next w ≡ Some (Some b)) × (less ≤ℤ (b -ℤ e)) × ((b -ℤ e) ≤ℤ more)
+      by (inl first) =
+          let old = so_far w e first there in
+          (old.0, old.1, omega (arith, ints, old.2, down), omega (arith, ints, old.3, up))
+      by (inr last) =
+          let place : n ≡ w = omega (arith, under, last) in
+          let same : a ≡ e = at_same (Some a) a e refl (at_same (slice_get layer w) (Some a) (Some e) (ap (slice_get layer) (sym place) ∙ here) there) in
+          (b, ap (slice_get next) (sym place) ∙ before, omega (arith, ints, low, same), omega (arith, ints, high, same))
+
+  -- where no cell rose or went, a bound over the next layer and the spread of the falls are a bound over the layer
+  pub top_wider : (zs : List Vector) (h : ℕ) (top least most : ℤ) → FallsBetween least most (length layer) →
+      ((w : ℕ) (b : ℤ) → slice_get next w ≡ Some (Some b) → IsAtMost layer w b) → IsTop zs next h top → IsTop zs layer h (top +ℤ (most -ℤ least))
+  top_wider zs h top least most falls kept is_top w a reach =
+      let (p, before, _, most_there) = falls reach.to a (slice_get_within layer reach.to (Some a) reach.cell) reach.cell in
+      let (b, under, low) = is_top w p (record { to = reach.to; leads = reach.leads; cell = before }) in
+      let (q, now, _) = kept w b under in
+      let (e, then, least_here, _) = falls w q (slice_get_within layer w (Some q) now) now in
+      let same : e ≡ b = at_same (Some e) e b refl (at_same (slice_get next w) (Some e) (Some b) then under) in
+      (q, now, omega (arith, ints, most_there, low, least_here, same))
