@@ -62,7 +62,8 @@ plain_of_command status.Memory plain = absurd plain
 
 -- ---- the answer to a form that reads this, and has these endings on what was read
 
-module _ {A : Type 0} (form : FormValue) (prefix : List ℕ) (found : List File → Result A ReadFault) (Ends Holds : A → Ending → Type 0)
+module _ {A : Type 0} (form : FormValue) (prefix : List ℕ) (found : List File → Result A ReadFault)
+    (Ends Holds : A → Ending → Type 0)
     (ends_so : (fs : List File) (e : Ending) → IsEndingOf prefix Ends (found fs) e → IsFormEnding (Some form) fs e)
     (holds_so : (fs : List File) (a : A) (e : Ending) → found fs ≡ Ok a → Holds a e → IsTrueEnd (Some form) fs e) where
   ending_found : (fs : List File) (a : A) (e : Ending) → found fs ≡ Ok a → Ends a e → IsFormEnding (Some form) fs e
@@ -71,15 +72,18 @@ module _ {A : Type 0} (form : FormValue) (prefix : List ℕ) (found : List File 
 
   ending_refused : (fs : List File) (f : ReadFault) (e : Ending) → found fs ≡ Err f → e ≡ fault_ending prefix f →
       IsFormEnding (Some form) fs e
-  ending_refused fs f e stops is = ends_so fs e (subst (λ (r : Result A ReadFault). IsEndingOf prefix Ends r e) (sym stops) is)
+  ending_refused fs f e stops is =
+      ends_so fs e (subst (λ (r : Result A ReadFault). IsEndingOf prefix Ends r e) (sym stops) is)
 
   module _ (before now : Folder) where
     -- all was read, and the answer is an ending on it
-    made : (a : A) (e : Ending) → ForTold before.files (λ fs. found fs ≡ Ok a) → IsPlain e.status → IsStoredAs (stored_by (Some form)) e.stored
+    made : (a : A) (e : Ending) → ForTold before.files (λ fs. found fs ≡ Ok a) → IsPlain e.status
+        → IsStoredAs (stored_by (Some form)) e.stored
         → Ends a e → Holds a e → IsAnswer (Some form) before now e
     made a e told plain stored ends holds = record {
       told = ForTold-weaker before.files _ _ (λ fs there.
-          inl (plain_is_no_read_fault e.status plain, ending_found fs a e there ends, λ written. holds_so fs a e there holds)) told;
+          inl (plain_is_no_read_fault e.status plain, ending_found fs a e there ends, λ written. holds_so fs a e there
+              holds)) told;
       read = λ same. absurd (plain_is_no_read_fault e.status plain same);
       status = plain_of_command e.status plain;
       stored = stored;
@@ -100,8 +104,10 @@ module _ {A : Type 0} (form : FormValue) (prefix : List ℕ) (found : List File 
           stored = subst (λ (o : Option File). IsStoredAs (stored_by (Some form)) o) (sym none) tt;
         }
 
-    unread_told : (files : Option (List File)) (Failed : Type 0) (kind : FileKind) (e : Ending) → e ≡ read_ending (prefix ++ suffix_of kind)
-        → IsMissing files (prefix ++ suffix_of kind) Failed → ForTold files (ReachesFile found prefix kind) → ForTold files (IsToldAnswer (Some form) Failed e)
+    unread_told : (files : Option (List File)) (Failed : Type 0) (kind : FileKind) (e : Ending)
+        → e ≡ read_ending (prefix ++ suffix_of kind)
+        → IsMissing files (prefix ++ suffix_of kind) Failed → ForTold files (ReachesFile found prefix kind)
+            → ForTold files (IsToldAnswer (Some form) Failed e)
     unread_told None Failed kind e is missing reaches = tt
     unread_told (Some fs) Failed kind e is missing reaches =
         let name = prefix ++ suffix_of kind in
@@ -114,7 +120,8 @@ module _ {A : Type 0} (form : FormValue) (prefix : List ℕ) (found : List File 
             ends,
             missing,
             elim missing [
-              | inl lacks ↦ inr (subst (λ (f : List File). IsFormEnding (Some form) f (read_ending name)) (without_lacking fs name lacks) ends)
+              | inl lacks ↦ inr (subst (λ (f : List File). IsFormEnding (Some form) f (read_ending name))
+                  (without_lacking fs name lacks) ends)
               | inr failed ↦ inl failed
             ],
           ),
@@ -122,7 +129,8 @@ module _ {A : Type 0} (form : FormValue) (prefix : List ℕ) (found : List File 
 
     -- a file could not be read
     unread : (kind : FileKind) (e : Ending) → e ≡ read_ending (prefix ++ suffix_of kind)
-        → IsMissing before.files (prefix ++ suffix_of kind) (ReadFailed before now) → ForTold before.files (ReachesFile found prefix kind)
+        → IsMissing before.files (prefix ++ suffix_of kind) (ReadFailed before now)
+            → ForTold before.files (ReachesFile found prefix kind)
         → IsAnswer (Some form) before now e
     unread kind e is missing reaches = record {
       told = unread_told before.files (ReadFailed before now) kind e is missing reaches;
@@ -131,19 +139,25 @@ module _ {A : Type 0} (form : FormValue) (prefix : List ℕ) (found : List File 
       stored = subst (λ (e : Ending). IsStoredAs (stored_by (Some form)) e.stored) (sym is) tt;
     }
 
-    refused : (f : ReadFault) (e : Ending) → IsRefusalOf prefix f e → IsReadCause found before now prefix f → IsAnswer (Some form) before now e
+    refused : (f : ReadFault) (e : Ending) → IsRefusalOf prefix f e → IsReadCause found before now prefix f
+        → IsAnswer (Some form) before now e
     refused (read.Shelf kind) e of_fault (missing, reaches) = unread kind e of_fault.ending missing reaches
     refused read.Memory e of_fault cause = absurd (of_fault.found refl)
     refused (read.TooLong kind) e of_fault (content, stops) =
-        stopped (read.TooLong kind) e of_fault.ending (ap (λ (e : Ending). e.status) of_fault.ending) (ap (λ (e : Ending). e.stored) of_fault.ending) stops
+        stopped (read.TooLong kind) e of_fault.ending (ap (λ (e : Ending). e.status) of_fault.ending)
+            (ap (λ (e : Ending). e.stored) of_fault.ending) stops
     refused (read.Form kind fault) e of_fault (content, stops) =
-        stopped (read.Form kind fault) e of_fault.ending (ap (λ (e : Ending). e.status) of_fault.ending) (ap (λ (e : Ending). e.stored) of_fault.ending) stops
+        stopped (read.Form kind fault) e of_fault.ending (ap (λ (e : Ending). e.status) of_fault.ending)
+            (ap (λ (e : Ending). e.stored) of_fault.ending) stops
     refused (read.Costs at) e of_fault (content, stops) =
-        stopped (read.Costs at) e of_fault.ending (ap (λ (e : Ending). e.status) of_fault.ending) (ap (λ (e : Ending). e.stored) of_fault.ending) stops
+        stopped (read.Costs at) e of_fault.ending (ap (λ (e : Ending). e.status) of_fault.ending)
+            (ap (λ (e : Ending). e.stored) of_fault.ending) stops
     refused (read.Relations at) e of_fault (content, stops) =
-        stopped (read.Relations at) e of_fault.ending (ap (λ (e : Ending). e.status) of_fault.ending) (ap (λ (e : Ending). e.stored) of_fault.ending) stops
+        stopped (read.Relations at) e of_fault.ending (ap (λ (e : Ending). e.status) of_fault.ending)
+            (ap (λ (e : Ending). e.stored) of_fault.ending) stops
     refused (read.Program fault) e of_fault (content, stops) =
-        stopped (read.Program fault) e of_fault.ending (ap (λ (e : Ending). e.status) of_fault.ending) (ap (λ (e : Ending). e.stored) of_fault.ending) stops
+        stopped (read.Program fault) e of_fault.ending (ap (λ (e : Ending). e.status) of_fault.ending)
+            (ap (λ (e : Ending). e.stored) of_fault.ending) stops
 
     -- the same of the answer of a call
     pub answer_made : {E : Type 0} (r : Result Ending E) (a : A) → ForTold before.files (λ fs. found fs ≡ Ok a)
@@ -158,10 +172,12 @@ module _ {A : Type 0} (form : FormValue) (prefix : List ℕ) (found : List File 
     answer_refused (Ok e) f of_fault cause = refused f e of_fault cause
 
 -- words that are no form have one answer
-pub no_form : (before now : Folder) (form : Option FormValue) (e : Ending) → form ≡ None → e ≡ ending status.Usage usage_text →
+pub no_form : (before now : Folder) (form : Option FormValue) (e : Ending) → form ≡ None
+    → e ≡ ending status.Usage usage_text →
     IsAnswer form before now e
 no_form before now form e none is =
-    subst (λ (f : Option FormValue). IsAnswer f before now e) (sym none) (subst (IsAnswer None before now) (sym is) (record {
+    subst (λ (f : Option FormValue). IsAnswer f before now e) (sym none)
+        (subst (IsAnswer None before now) (sym is) (record {
       told = ForTold-all before.files _ (λ fs. inl ((λ same. absurd (cc)), refl, (λ written. absurd written)));
       read = λ same. absurd (cc);
       status = refl;
@@ -169,7 +185,8 @@ no_form before now form e none is =
     }))
 
 -- the answer to a form is one to the words that are it
-pub by_form : {E : Type 0} (r : Result Ending E) (before now : Folder) (form : Option FormValue) (f : FormValue) → form ≡ Some f
+pub by_form : {E : Type 0} (r : Result Ending E) (before now : Folder) (form : Option FormValue) (f : FormValue)
+    → form ≡ Some f
     → IfOk r (IsAnswer (Some f) before now) → IfOk r (IsAnswer form before now)
 by_form r before now form f is answer = subst (λ (f : Option FormValue). IfOk r (IsAnswer f before now)) (sym is) answer
 

@@ -37,10 +37,12 @@ broken_is_plain : (b : Option Broken) → IsPlain (broken_status b)
 broken_is_plain None = tt
 broken_is_plain (Some b) = tt
 
-pub verdict_is_plain : (name : Option Word) (p : Program) (x : Bricks) (e : Ending) → e ≡ verdict_ending p x → IsPlainEnding name e
+pub verdict_is_plain : (name : Option Word) (p : Program) (x : Bricks) (e : Ending) → e ≡ verdict_ending p x
+    → IsPlainEnding name e
 verdict_is_plain name p x e is = plain_as name e (verdict_ending p x) is (broken_is_plain (first_break p x), tt)
 
-pub kernel_is_plain : (name : Option Word) (limit : ℕ) (m : Matrix) (e : Ending) → IsKernelEnding limit m e → IsPlainEnding name e
+pub kernel_is_plain : (name : Option Word) (limit : ℕ) (m : Matrix) (e : Ending) → IsKernelEnding limit m e
+    → IsPlainEnding name e
 kernel_is_plain name limit m e (inl (exceeds, is)) = plain_as name e _ is (tt, tt)
 kernel_is_plain name limit m e (inr (basis, within, is)) = plain_as name e _ is (tt, tt)
 
@@ -48,10 +50,13 @@ checked_is_plain : (a : Check) → IsPlain (checked_status a)
 checked_is_plain (check.Yes v) = tt
 checked_is_plain (check.No r) = tt
 
-parsed_is_plain : (name : Option Word) (prefix : Word) (p : Program) (r : Result Certificate CertFault) → IsPlainEnding name (parsed_ending prefix p r)
+parsed_is_plain : (name : Option Word) (prefix : Word) (p : Program) (r : Result Certificate CertFault)
+    → IsPlainEnding name (parsed_ending prefix p r)
 parsed_is_plain name prefix p (Err f) = (tt, tt)
 parsed_is_plain name prefix p (Ok c) = (checked_is_plain (checked p c), tt)
 
-pub certificate_is_plain : (name : Option Word) (prefix : Word) (p : Program) (bytes : List ℕ) (e : Ending) → e ≡ certificate_ending prefix p bytes →
+pub certificate_is_plain : (name : Option Word) (prefix : Word) (p : Program) (bytes : List ℕ) (e : Ending)
+    → e ≡ certificate_ending prefix p bytes →
     IsPlainEnding name e
-certificate_is_plain name prefix p bytes e is = plain_as name e (certificate_ending prefix p bytes) is (parsed_is_plain name prefix p (parsed_certificate bytes))
+certificate_is_plain name prefix p bytes e is = plain_as name e (certificate_ending prefix p bytes) is
+    (parsed_is_plain name prefix p (parsed_certificate bytes))

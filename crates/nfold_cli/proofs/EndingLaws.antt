@@ -19,26 +19,33 @@ use Rattle.nfold_cli.specs.Forms.{IsFormEnding, IsEnding}
 -- a matrix has one slack basis, and it is within the limit or not
 kernel_ending : (limit : ℕ) (m : Matrix) (e f : Ending) → IsKernelEnding limit m e → IsKernelEnding limit m f → e ≡ f
 kernel_ending limit m e f (inl (exceeds, is)) (inl (again, same)) = is ∙ sym same
-kernel_ending limit m e f (inl (exceeds, is)) (inr (basis, within, same)) = absurd (within_or_exceeds m limit basis within exceeds)
-kernel_ending limit m e f (inr (basis, within, is)) (inl (exceeds, same)) = absurd (within_or_exceeds m limit basis within exceeds)
+kernel_ending limit m e f (inl (exceeds, is)) (inr (basis, within, same)) =
+    absurd (within_or_exceeds m limit basis within exceeds)
+kernel_ending limit m e f (inr (basis, within, is)) (inl (exceeds, same)) =
+    absurd (within_or_exceeds m limit basis within exceeds)
 kernel_ending limit m e f (inr (basis, within, is)) (inr (other, too, same)) =
     let one : basis ≡ other = slack_basis_unique m basis other within.slack too.slack in
-    is ∙ ap (λ (zs : List Vector). ending status.Done (matrix_text (record { cols = m.cols; rows = kernel m.cols zs }))) one ∙ sym same
+    is ∙ ap (λ (zs : List Vector). ending status.Done (matrix_text (record { cols = m.cols; rows = kernel m.cols zs })))
+        one ∙ sym same
 
 -- one ending on what was read is one ending
-ending_of : {A : Type 0} (prefix : List ℕ) (read : Result A ReadFault) (Ends : A → Ending → Type 0) → ((a : A) (e f : Ending) → Ends a e → Ends a f → e ≡ f)
+ending_of : {A : Type 0} (prefix : List ℕ) (read : Result A ReadFault) (Ends : A → Ending → Type 0)
+    → ((a : A) (e f : Ending) → Ends a e → Ends a f → e ≡ f)
     → (e f : Ending) → IsEndingOf prefix Ends read e → IsEndingOf prefix Ends read f → e ≡ f
 ending_of prefix (Err stop) Ends one e f is same = is ∙ sym same
 ending_of prefix (Ok a) Ends one e f is same = one a e f is same
 
-form_ending : (form : Option FormValue) (files : List File) (e f : Ending) → IsFormEnding form files e → IsFormEnding form files f → e ≡ f
+form_ending : (form : Option FormValue) (files : List File) (e f : Ending) → IsFormEnding form files e
+    → IsFormEnding form files f → e ≡ f
 form_ending None files e f is same = is ∙ sym same
 form_ending (Some (PointForm prefix relations)) files e f is same =
     ending_of prefix (pointed_in prefix relations files) IsPointEnding (λ a e f is same. is ∙ sym same) e f is same
 form_ending (Some (GraverForm prefix limit)) files e f is same =
     ending_of prefix (plain_in files prefix) (IsKernelEnding limit) (λ m e f. kernel_ending limit m e f) e f is same
 form_ending (Some (CheckForm prefix relations)) files e f is same =
-    ending_of prefix (claimed_in prefix relations files) (IsCheckEnding prefix) (λ a e f is same. is ∙ sym same) e f is same
+    ending_of prefix (claimed_in prefix relations files) (IsCheckEnding prefix) (λ a e f is same. is ∙ sym same) e f is
+        same
 
-pub ending_unique : (words : List Word) (files : List File) (e f : Ending) → IsEnding words files e → IsEnding words files f → e ≡ f
+pub ending_unique : (words : List Word) (files : List File) (e f : Ending) → IsEnding words files e
+    → IsEnding words files f → e ≡ f
 ending_unique words files e f is same = form_ending (form_of words) files e f is same

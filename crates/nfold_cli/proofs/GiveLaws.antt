@@ -14,14 +14,17 @@ use Rattle.nfold_cli.specs.Answers.{IsToldAnswer, IsAnswer, IsOfForm, IsOfEnding
 took_part : (text before now : List ℕ) → Took text before now → TookPart text before now
 took_part text before now took = (text, [], sym (append-nil text), took)
 
-pub both_weaker : {A : Type 0} (before now : Option A) (P Q : A → A → Type 0) → ((a b : A) → P a b → Q a b) → ForBoth before now P → ForBoth before now Q
+pub both_weaker : {A : Type 0} (before now : Option A) (P Q : A → A → Type 0) → ((a b : A) → P a b → Q a b)
+    → ForBoth before now P → ForBoth before now Q
 both_weaker None None P Q follows p = tt
 both_weaker (Some a) (Some b) P Q follows p = follows a b p
 both_weaker None (Some b) P Q follows p = absurd p
 both_weaker (Some a) None P Q follows p = absurd p
 
-pub said_in_part : (before now : Stream) (line : List ℕ) → Said before now line → ForBoth before.taken now.taken (TookPart line)
-said_in_part before now line (inl whole) = both_weaker before.taken now.taken (Took line) (TookPart line) (took_part line) whole
+pub said_in_part : (before now : Stream) (line : List ℕ) → Said before now line
+    → ForBoth before.taken now.taken (TookPart line)
+said_in_part before now line (inl whole) = both_weaker before.taken now.taken (Took line) (TookPart line)
+    (took_part line) whole
 said_in_part before now line (inr (failed, part)) = part
 
 -- an ending is written or refused
@@ -46,15 +49,18 @@ out_of_memory Lines before now s lines (inr (same, part)) =
 
 module _ (e : Ending) (before now : Scene) where
   -- a refusal is said, or memory runs out
-  pub gives_refusal : (s : Status) → IsRefusal e.status → IsUntouched before now → IsSaid before.err now.err e.text e.status s → Gives e before now s
+  pub gives_refusal : (s : Status) → IsRefusal e.status → IsUntouched before now
+      → IsSaid before.err now.err e.text e.status s → Gives e before now s
   gives_refusal s refusal untouched (inl (same, said)) =
       inr (inl (record { refusal = refusal; status = same; untouched = untouched; said = said }))
   gives_refusal s refusal untouched (inr (same, part)) =
-      inr (inr (inr (record { status = same; line = e.text; lines = inr (inr (refusal, refl)); said = part }, inl untouched)))
+      inr (inr (inr (record { status = same; line = e.text; lines = inr (inr (refusal, refl)); said = part }, inl
+          untouched)))
 
   -- what was begun is broken off, or memory runs out
   pub gives_broken : (s : Status) → IsWritten e.status → IsPart e before.folder now.folder before.out now.out
-      → FailsGiving e before.folder now.folder before.out now.out → IsSaid before.err now.err write_text status.WriteFault s → Gives e before now s
+      → FailsGiving e before.folder now.folder before.out now.out
+          → IsSaid before.err now.err write_text status.WriteFault s → Gives e before now s
   gives_broken s written part cause (inl (same, said)) =
       inr (inr (inl (record { written = written; status = same; part = part; cause = cause; said = said })))
   gives_broken s written part cause (inr (same, took)) =
@@ -67,7 +73,8 @@ module _ (e : Ending) (before now : Scene) where
 
 -- ---- what was read before changes nothing
 
-module _ (e : Ending) (before mid now : Folder) (out_before out_now err_before err_now : Stream) (reads : OnlyReads before mid) where
+module _ (e : Ending) (before mid now : Folder) (out_before out_now err_before err_now : Stream)
+    (reads : OnlyReads before mid) where
   from_files : (P : List File → List File → Type 0) → ForBoth mid.files now.files P → ForBoth before.files now.files P
   from_files P both = subst (λ (o : Option (List File)). ForBoth o now.files P) reads.files both
 
@@ -108,16 +115,19 @@ module _ (e : Ending) (before mid now : Folder) (out_before out_now err_before e
   })))
   gives_before s (inr (inr (inr (memory, inl untouched)))) =
       inr (inr (inr (memory, inl (record { files = untouched_before untouched.files; taken = untouched.taken }))))
-  gives_before s (inr (inr (inr (memory, inr (written, part))))) = inr (inr (inr (memory, inr (written, part_before part))))
+  gives_before s (inr (inr (inr (memory, inr (written, part))))) =
+      inr (inr (inr (memory, inr (written, part_before part))))
 
 -- what was written after is not looked at
-pub answer_after : (form : Option FormValue) (before mid now : Folder) (e : Ending) → now.read_faults ≡ mid.read_faults → IsAnswer form before mid e
+pub answer_after : (form : Option FormValue) (before mid now : Folder) (e : Ending) → now.read_faults ≡ mid.read_faults
+    → IsAnswer form before mid e
     → IsAnswer form before now e
 answer_after form before mid now e same answer =
     let Failed : ℕ → Type 0 = λ n. Rose before.read_faults n in
     record {
       told = subst (λ (n : ℕ). ForTold before.files (IsToldAnswer form (Failed n) e)) (sym same) answer.told;
-      read = subst (λ (n : ℕ). e.status ≡ status.ReadFault → IsTold before.files (λ files. Unit {0}) ⊎ Failed n) (sym same) answer.read;
+      read = subst (λ (n : ℕ). e.status ≡ status.ReadFault → IsTold before.files (λ files. Unit {0}) ⊎ Failed n)
+          (sym same) answer.read;
       status = answer.status;
       stored = answer.stored;
     }

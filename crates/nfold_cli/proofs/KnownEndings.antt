@@ -46,15 +46,18 @@ pub link_row : IsEnding point_t (files_at (codes "2 2 0 4 2 2")) (ending status.
 unfolding digits
 link_row = refl
 
-pub above : IsEnding point_t (files_at (codes "2 2 5 -1 2 2")) (ending status.No (codes "broken above brick 1 column 1\n"))
+pub above : IsEnding point_t (files_at (codes "2 2 5 -1 2 2"))
+    (ending status.No (codes "broken above brick 1 column 1\n"))
 unfolding digits
 above = refl
 
-pub crossed : IsEnding point_t (files_with (codes "2 2 4 4 -1 4") []) (ending status.Input (codes "input: t.ub: crossed at brick 2 column 1\n"))
+pub crossed : IsEnding point_t (files_with (codes "2 2 4 4 -1 4") [])
+    (ending status.Input (codes "input: t.ub: crossed at brick 2 column 1\n"))
 unfolding digits
 crossed = refl
 
-pub no_costs : IsEnding point_t (without (files_at []) (codes "t.cost")) (ending status.ReadFault (codes "read: t.cost\n"))
+pub no_costs : IsEnding point_t (without (files_at []) (codes "t.cost"))
+    (ending status.ReadFault (codes "read: t.cost\n"))
 no_costs = refl
 
 -- ---- with a file of relations
@@ -62,19 +65,23 @@ no_costs = refl
 abbrev related : List ℕ → List ℕ → List File
 related relations point = file_of (codes "t.rel") relations ∷ files_at point
 
-pub at_most : IsEnding (with_relations point_t) (related (codes "1 1 <") (codes "2 2 0 4 2 2")) (ending status.Done (codes "feasible\ncost 4\n"))
+pub at_most : IsEnding (with_relations point_t) (related (codes "1 1 <") (codes "2 2 0 4 2 2"))
+    (ending status.Done (codes "feasible\ncost 4\n"))
 unfolding digits
 at_most = refl
 
-pub at_least : IsEnding (with_relations point_t) (related (codes "1 1 >") (codes "2 2 0 4 2 2")) (ending status.No (codes "broken link row 1\n"))
+pub at_least : IsEnding (with_relations point_t) (related (codes "1 1 >") (codes "2 2 0 4 2 2"))
+    (ending status.No (codes "broken link row 1\n"))
 unfolding digits
 at_least = refl
 
-pub not_asked_for : IsEnding point_t (related (codes "1 1 <") (codes "2 2 0 4 2 2")) (ending status.No (codes "broken link row 1\n"))
+pub not_asked_for : IsEnding point_t (related (codes "1 1 <") (codes "2 2 0 4 2 2"))
+    (ending status.No (codes "broken link row 1\n"))
 unfolding digits
 not_asked_for = refl
 
-pub no_such_relation : IsEnding (with_relations point_t) (related (codes "1 1\n~") []) (ending status.Input (codes "input: t.rel: syntax at 4\n"))
+pub no_such_relation : IsEnding (with_relations point_t) (related (codes "1 1\n~") [])
+    (ending status.Input (codes "input: t.rel: syntax at 4\n"))
 unfolding digits
 no_such_relation = refl
 
@@ -96,18 +103,22 @@ claimed_at claim point =
     ∷ file_of (codes "t.ub") (codes "2 2 4 4 4 4")
     ∷ file_of (codes "t.rhs") (codes "1 3 3 9 4")
     ∷ file_of (codes "t.cost") (codes "2 2 q 1 0 0 q 0 0 0 q 1 0 0 q 0 0 0")
-    ∷ file_of (codes "t.cert") (codes "nfold-certificate 1 claim " ++ claim ++ codes " point 1 2 " ++ point ++ codes " bricks 3 3 0 1 1 1 -1 0 1 0 1 end")
+    ∷ file_of (codes "t.cert") (codes "nfold-certificate 1 claim " ++ claim ++ codes " point 1 2 " ++ point ++ codes
+        " bricks 3 3 0 1 1 1 -1 0 1 0 1 end")
     ∷ []
 
-pub shown : IsEnding check_t (claimed_at (codes "infeasible-brick 1") (codes "4 4")) (ending status.Done (codes "yes infeasible brick 1 residual 1\n"))
+pub shown : IsEnding check_t (claimed_at (codes "infeasible-brick 1") (codes "4 4"))
+    (ending status.Done (codes "yes infeasible brick 1 residual 1\n"))
 unfolding digits
 shown = refl
 
-pub a_step_helps : IsEnding check_t (claimed_at (codes "infeasible-brick 1") (codes "4 3")) (ending status.No (codes "no B2\n"))
+pub a_step_helps : IsEnding check_t (claimed_at (codes "infeasible-brick 1") (codes "4 3"))
+    (ending status.No (codes "no B2\n"))
 unfolding digits
 a_step_helps = refl
 
-pub no_such_claim : IsEnding check_t (claimed_at (codes "infeasible") (codes "4 4")) (ending status.Input (codes "input: t.cert: word at 26\n"))
+pub no_such_claim : IsEnding check_t (claimed_at (codes "infeasible") (codes "4 4"))
+    (ending status.Input (codes "input: t.cert: word at 26\n"))
 unfolding digits
 no_such_claim = refl
 

@@ -36,7 +36,8 @@ graver_and rest = codes "graver" ∷ codes "m" ∷ rest
 pub graver_without_a_limit : form_of (graver_and []) ≡ Some (GraverForm (codes "m") 500)
 graver_without_a_limit = refl
 
-pub graver_with_a_limit : form_of (graver_and (codes "--max-basis" ∷ codes "0008" ∷ [])) ≡ Some (GraverForm (codes "m") 8)
+pub graver_with_a_limit : form_of (graver_and (codes "--max-basis" ∷ codes "0008" ∷ [])) ≡ Some
+    (GraverForm (codes "m") 8)
 graver_with_a_limit = refl
 
 pub greatest_limit : form_of (graver_and (codes "--max-basis" ∷ codes "2000" ∷ [])) ≡ Some (GraverForm (codes "m") 2000)
@@ -128,21 +129,25 @@ pub bound_missing : input_text (codes "t.lb") (mat_fault_text (mat.NoBound 6)) �
 unfolding digits
 bound_missing = refl
 
-pub mat_faults : mat_fault_text (mat.NotNumber 0) ++ mat_fault_text (mat.TooBig 1) ++ mat_fault_text (mat.EndsEarly 2) ++ mat_fault_text (mat.Extra 3) ++ mat_fault_text (mat.Shape 4 (pos 9) 0 8) ++ mat_fault_text mat.Memory
+pub mat_faults : mat_fault_text (mat.NotNumber 0) ++ mat_fault_text (mat.TooBig 1) ++ mat_fault_text (mat.EndsEarly 2)
+    ++ mat_fault_text (mat.Extra 3) ++ mat_fault_text (mat.Shape 4 (pos 9) 0 8) ++ mat_fault_text mat.Memory
     ≡ codes "not-number at 0too-big at 1ends-early at 2extra at 3shape at 4"
 unfolding digits
 mat_faults = refl
 
-pub slope_not_whole : input_text (codes "t.cost") (cost_fault_text 1 1 (cost.SlopeNotWhole 2)) ≡ codes "input: t.cost: slope-not-whole at brick 1 column 1 point 2\n"
+pub slope_not_whole : input_text (codes "t.cost") (cost_fault_text 1 1 (cost.SlopeNotWhole 2)) ≡ codes
+    "input: t.cost: slope-not-whole at brick 1 column 1 point 2\n"
 unfolding digits
 slope_not_whole = refl
 
-pub cost_faults : cost_fault_text 1 2 (cost.NotRising 3) ++ cost_fault_text 4 5 (cost.NotConvex 0) ++ cost_fault_text 6 7 cost.NotCovered ++ cost_fault_text 8 9 cost.TooLarge
+pub cost_faults : cost_fault_text 1 2 (cost.NotRising 3) ++ cost_fault_text 4 5 (cost.NotConvex 0) ++ cost_fault_text 6
+    7 cost.NotCovered ++ cost_fault_text 8 9 cost.TooLarge
     ≡ codes "not-rising at brick 1 column 2 point 3not-convex at brick 4 column 5 point 0not-covered at brick 6 column 7too-large at brick 8 column 9"
 unfolding digits
 cost_faults = refl
 
-pub crossed_bounds : input_text (codes "t.ub") (at_column (codes "crossed") 2 1) ≡ codes "input: t.ub: crossed at brick 2 column 1\n"
+pub crossed_bounds : input_text (codes "t.ub") (at_column (codes "crossed") 2 1) ≡ codes
+    "input: t.ub: crossed at brick 2 column 1\n"
 unfolding digits
 crossed_bounds = refl
 

@@ -1,5 +1,6 @@
 pub mod KnownValues
 pub mod KnownEndings
+pub mod KnownRuns
 pub mod PrefixLaws
 pub mod WordLaws
 pub mod EndingLaws

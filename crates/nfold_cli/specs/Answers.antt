@@ -15,7 +15,8 @@ use Rattle.nfold_cli.specs.Running.{Stores, StoresPart, Said}
 
 -- ---- the answer
 
--- a file that could not be read, where runs end by the files like this: it is absent or a read failed, and it is reached
+-- a file that could not be read, where runs end by the files like this: it is absent or a read failed, and it is
+-- reached
 abbrev pub IsUnread : (List File → Ending → Type 0) → Type 0 → List ℕ → List File → Type 0
 IsUnread Ends Failed name files =
     Ends (without files name) (read_ending name)
@@ -91,11 +92,13 @@ pub record IsPartWritten (e : Ending) (before now : Folder) (out_before out_now 
   pub took : ForBoth out_before.taken out_now.taken (TookPart e.text)
 
 abbrev pub IsPart : Ending → Folder → Folder → Stream → Stream → Type 0
-IsPart e before now out_before out_now = IsPartStored e before now out_before out_now ⊎ IsPartWritten e before now out_before out_now
+IsPart e before now out_before out_now = IsPartStored e before now out_before out_now
+    ⊎ IsPartWritten e before now out_before out_now
 
 -- why an answer is not given whole: the output has failed, or there was a file to be stored and the shelf has failed
 abbrev pub FailsGiving : Ending → Folder → Folder → Stream → Stream → Type 0
-FailsGiving e before now out_before out_now = SinkFailed out_before out_now ⊎ ((e.stored ≢ None) × WriteFailed before now)
+FailsGiving e before now out_before out_now = SinkFailed out_before out_now
+    ⊎ ((e.stored ≢ None) × WriteFailed before now)
 
 abbrev pub IsHandCause : Ending → Folder → Folder → Stream → Stream → SinkFault → Type 0
 IsHandCause e before now out_before out_now sink.Failed = FailsGiving e before now out_before out_now
@@ -104,7 +107,8 @@ IsHandCause e before now out_before out_now sink.Memory = Unit {0}
 -- the line was said and the status is this one, or there was no memory to say it
 abbrev pub IsSaid : Stream → Stream → List ℕ → Status → Status → Type 0
 IsSaid before now line s answered =
-    ((answered ≡ s) × Said before now line) ⊎ ((answered ≡ status.Memory) × ForBoth before.taken now.taken (TookPart line))
+    ((answered ≡ s) × Said before now line) ⊎ ((answered ≡ status.Memory)
+        × ForBoth before.taken now.taken (TookPart line))
 
 -- the text was written whole, and nothing was said
 pub record IsGiven (e : Ending) (before now : Scene) (s : Status) : Type 0 where

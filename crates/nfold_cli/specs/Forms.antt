@@ -15,9 +15,12 @@ use Rattle.nfold_cli.specs.CheckCommand.{claimed_in, IsCheckEnding, IsTrueCheck}
 -- the ending of a form over these files
 abbrev pub IsFormEnding : Option FormValue → List File → Ending → Type 0
 IsFormEnding None files e = e ≡ ending status.Usage usage_text
-IsFormEnding (Some (PointForm prefix relations)) files e = IsEndingOf prefix IsPointEnding (pointed_in prefix relations files) e
-IsFormEnding (Some (GraverForm prefix limit)) files e = IsEndingOf prefix (IsKernelEnding limit) (plain_in files prefix) e
-IsFormEnding (Some (CheckForm prefix relations)) files e = IsEndingOf prefix (IsCheckEnding prefix) (claimed_in prefix relations files) e
+IsFormEnding (Some (PointForm prefix relations)) files e =
+    IsEndingOf prefix IsPointEnding (pointed_in prefix relations files) e
+IsFormEnding (Some (GraverForm prefix limit)) files e =
+    IsEndingOf prefix (IsKernelEnding limit) (plain_in files prefix) e
+IsFormEnding (Some (CheckForm prefix relations)) files e =
+    IsEndingOf prefix (IsCheckEnding prefix) (claimed_in prefix relations files) e
 
 -- the ending of these words over these files
 abbrev pub IsEnding : List Word → List File → Ending → Type 0
@@ -30,9 +33,11 @@ OfRead {A = A} read P = (a : A) × (read ≡ Ok a) × P a
 -- what an ending with a text for the output says is true of what the files hold
 abbrev pub IsTrueEnd : Option FormValue → List File → Ending → Type 0
 IsTrueEnd None files e = Unit {0}
-IsTrueEnd (Some (PointForm prefix relations)) files e = OfRead (pointed_in prefix relations files) (λ read. IsTruePoint read e)
+IsTrueEnd (Some (PointForm prefix relations)) files e =
+    OfRead (pointed_in prefix relations files) (λ read. IsTruePoint read e)
 IsTrueEnd (Some (GraverForm prefix limit)) files e = Unit {0}
-IsTrueEnd (Some (CheckForm prefix relations)) files e = OfRead (claimed_in prefix relations files) (λ read. IsTrueCheck read e)
+IsTrueEnd (Some (CheckForm prefix relations)) files e =
+    OfRead (claimed_in prefix relations files) (λ read. IsTrueCheck read e)
 
 -- the file that a run of the form stores
 abbrev pub stored_by : Option FormValue → Option Word

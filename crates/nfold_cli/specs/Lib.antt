@@ -1,5 +1,6 @@
 pub mod Words
 pub mod Texts
+pub mod RunTexts
 pub mod Endings
 pub mod PointCommand
 pub mod GraverCommand

@@ -21,7 +21,8 @@ pub record Pointed : Type 0 where
 -- the program and the point in the files, or the first fault
 abbrev pub pointed_in : Word → Bool → List File → Result Pointed ReadFault
 pointed_in prefix relations files =
-    and_then (program_in files prefix relations) (λ p. and_then (point_in files prefix p) (λ x. Ok (record { program = p; point = x.rows })))
+    and_then (program_in files prefix relations) (λ p. and_then (point_in files prefix p)
+        (λ x. Ok (record { program = p; point = x.rows })))
 
 abbrev pub broken_status : Option Broken → Status
 broken_status None = status.Done
@@ -36,5 +37,6 @@ IsPointEnding read e = e ≡ verdict_ending read.program read.point
 
 -- what is said of the point is true: it is feasible and has this cost, or it is not feasible
 pub record IsTruePoint (read : Pointed) (e : Ending) : Type 0 where
-  pub done : e.status ≡ status.Done → IsFeasible read.program read.point × (e.text ≡ point_text None (cost read.program read.point))
+  pub done : e.status ≡ status.Done → IsFeasible read.program read.point
+      × (e.text ≡ point_text None (cost read.program read.point))
   pub no : e.status ≡ status.No → IsFeasible read.program read.point → ⊥

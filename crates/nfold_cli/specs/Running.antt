@@ -14,7 +14,8 @@ SomeEnding words files P = (e : Ending) × IsEnding words files e × P e
 
 -- ---- the status
 
--- the status is that of the ending; a fault of writing comes only where there was a text to write; want of memory, and a fault of reading, say nothing of the ending
+-- the status is that of the ending; a fault of writing comes only where there was a text to write; want of memory, and
+-- a fault of reading, say nothing of the ending
 abbrev pub EndsWith : List Word → List File → Status → Type 0
 EndsWith words files status.Memory = Unit {0}
 EndsWith words files status.ReadFault = Unit {0}
@@ -59,7 +60,8 @@ pub record GivesWhole (e : Ending) (before now : List File) (taken_before taken_
 -- the ending was given in part: a first part of its file, and no text; or its file, and a first part of its text
 abbrev pub GivesPart : Ending → List File → List File → List ℕ → List ℕ → Type 0
 GivesPart e before now taken_before taken_now =
-    (StoresPart e.stored before now × (taken_now ≡ taken_before)) ⊎ (Stores e.stored before now × TookPart e.text taken_before taken_now)
+    (StoresPart e.stored before now × (taken_now ≡ taken_before))
+        ⊎ (Stores e.stored before now × TookPart e.text taken_before taken_now)
 
 -- what told files and a told output are after a run
 abbrev pub Leaves : List Word → List File → List File → List ℕ → List ℕ → Status → Type 0
@@ -70,7 +72,8 @@ Leaves words before now taken_before taken_now status.No =
 Leaves words before now taken_before taken_now status.WriteFault =
     SomeEnding words before (λ e. IsWritten e.status × GivesPart e before now taken_before taken_now)
 Leaves words before now taken_before taken_now status.Memory =
-    ((now ≡ before) × (taken_now ≡ taken_before)) ⊎ SomeEnding words before (λ e. IsWritten e.status × GivesPart e before now taken_before taken_now)
+    ((now ≡ before) × (taken_now ≡ taken_before)) ⊎ SomeEnding words before
+        (λ e. IsWritten e.status × GivesPart e before now taken_before taken_now)
 Leaves words before now taken_before taken_now s = (now ≡ before) × (taken_now ≡ taken_before)
 
 -- the ending was given whole, and what it says is true
@@ -89,9 +92,11 @@ IsMessage line =
 -- errors took the line whole, or failed and took a first part
 abbrev pub Said : Stream → Stream → List ℕ → Type 0
 Said before now line =
-    ForBoth before.taken now.taken (Took line) ⊎ (SinkFailed before now × ForBoth before.taken now.taken (TookPart line))
+    ForBoth before.taken now.taken (Took line) ⊎ (SinkFailed before now
+        × ForBoth before.taken now.taken (TookPart line))
 
--- the file that is named is absent or a read failed; every file before it is accepted, since without it the run ends there
+-- the file that is named is absent or a read failed; every file before it is accepted, since without it the run ends
+-- there
 abbrev pub StopsReading : List Word → List File → Type 0 → (List ℕ → Type 0) → Type 0
 StopsReading words files Failed Says =
     (name : List ℕ) × IsEnding words (without files name) (read_ending name)

@@ -18,12 +18,14 @@ is_name_byte b = is_ascii_alphanumeric b || nat_eq b 95 || nat_eq b 45 || nat_eq
 
 -- 1 to 200 such bytes, the first of which is no dash
 abbrev pub is_prefix : Word → Bool
-is_prefix w = nat_le 1 (length w) && nat_le (length w) 200 && not (nat_eq (slice_index w 0) 45) && list_all is_name_byte w
+is_prefix w = nat_le 1 (length w) && nat_le (length w) 200 && not (nat_eq (slice_index w 0) 45) && list_all is_name_byte
+    w
 
 -- the value of 1 to 9 digits, where it is from the one number to the other
 abbrev pub number_within : ℕ → ℕ → Word → Option ℕ
 number_within from to w =
-    cond (is_digits w && nat_le (length w) 9 && nat_le from (digits_value w) && nat_le (digits_value w) to) (Some (digits_value w)) None
+    cond (is_digits w && nat_le (length w) 9 && nat_le from (digits_value w) && nat_le (digits_value w) to)
+        (Some (digits_value w)) None
 
 -- a form of the command line, with what it is about
 pub data FormValue : Type 0 where
@@ -85,4 +87,5 @@ form_with command prefix (Some o) = command_form command prefix o
 abbrev pub form_of : List Word → Option FormValue
 form_of [] = None
 form_of (command ∷ []) = None
-form_of (command ∷ prefix ∷ options) = cond (is_prefix prefix) (form_with command prefix (options_in no_options options)) None
+form_of (command ∷ prefix ∷ options) = cond (is_prefix prefix)
+    (form_with command prefix (options_in no_options options)) None

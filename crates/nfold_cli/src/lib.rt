@@ -6,12 +6,14 @@ mod answering;
 mod commands;
 mod laws;
 mod refusals;
+mod run_texts;
 mod running;
 mod status;
 mod texts;
 mod words;
 
 pub use laws::one_ending;
+pub use run_texts::{brick_step_text, limit_text, made_text};
 pub use running::run;
 pub use status::Status;
 pub use texts::{

@@ -237,7 +237,7 @@ pub fn usage_text() -> &'static [u8]
 }
 
 /// The text with the words and the number after it.
-fn with_number<I: Integer>(
+pub(crate) fn with_number<I: Integer>(
     mut text: Vec<u8>,
     words: &[u8],
     number: I,

@@ -10,7 +10,9 @@ returns-in-Ok-clause-runs g c =
     let now = g.S.Shelf.seen c.give.new.shelf in
     inl (
       c.in-Ok.answer,
-      answer_after (form_of (map (λ w. w.items) c.args.words.now)) before mid now c.in-Ok.answer c.give.ensures.writes.reads c.in-Ok.ensures.answer,
-      gives_before c.in-Ok.answer before mid now (g.K.Sink.seen c.args.out.now) (g.K.Sink.seen c.give.new.out) (g.E.Sink.seen c.args.err.now)
+      answer_after (form_of (map (λ w. w.items) c.args.words.now)) before mid now c.in-Ok.answer
+          c.give.ensures.writes.reads c.in-Ok.ensures.answer,
+      gives_before c.in-Ok.answer before mid now (g.K.Sink.seen c.args.out.now) (g.K.Sink.seen c.give.new.out)
+          (g.E.Sink.seen c.args.err.now)
           (g.E.Sink.seen c.give.new.err) c.in-Ok.ensures.reads c.give.result c.give.ensures.gives,
     )

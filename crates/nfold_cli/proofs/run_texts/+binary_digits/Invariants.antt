@@ -1,0 +1,4 @@
+use Rattle.nfold_cli.proofs.run_texts.+binary_digits.Given as goal
+
+abbrev pub decreases-binary_digits : goal.decreases-binary_digits
+decreases-binary_digits l = l.number
