@@ -82,8 +82,12 @@ module _ {A : Type 0} (form : FormValue) (prefix : List ℕ) (found : List File 
         → Ends a e → Holds a e → IsAnswer (Some form) before now e
     made a e told plain stored ends holds = record {
       told = ForTold-weaker before.files _ _ (λ fs there.
-          inl (plain_is_no_read_fault e.status plain, ending_found fs a e there ends, λ written. holds_so fs a e there
-              holds)) told;
+          inl (
+            plain_is_no_read_fault e.status plain,
+            ending_found fs a e there ends,
+            λ written. holds_so fs a e there
+                holds,
+          )) told;
       read = λ same. absurd (plain_is_no_read_fault e.status plain same);
       status = plain_of_command e.status plain;
       stored = stored;
@@ -107,7 +111,7 @@ module _ {A : Type 0} (form : FormValue) (prefix : List ℕ) (found : List File 
     unread_told : (files : Option (List File)) (Failed : Type 0) (kind : FileKind) (e : Ending)
         → e ≡ read_ending (prefix ++ suffix_of kind)
         → IsMissing files (prefix ++ suffix_of kind) Failed → ForTold files (ReachesFile found prefix kind)
-            → ForTold files (IsToldAnswer (Some form) Failed e)
+        → ForTold files (IsToldAnswer (Some form) Failed e)
     unread_told None Failed kind e is missing reaches = tt
     unread_told (Some fs) Failed kind e is missing reaches =
         let name = prefix ++ suffix_of kind in
@@ -130,7 +134,7 @@ module _ {A : Type 0} (form : FormValue) (prefix : List ℕ) (found : List File 
     -- a file could not be read
     unread : (kind : FileKind) (e : Ending) → e ≡ read_ending (prefix ++ suffix_of kind)
         → IsMissing before.files (prefix ++ suffix_of kind) (ReadFailed before now)
-            → ForTold before.files (ReachesFile found prefix kind)
+        → ForTold before.files (ReachesFile found prefix kind)
         → IsAnswer (Some form) before now e
     unread kind e is missing reaches = record {
       told = unread_told before.files (ReadFailed before now) kind e is missing reaches;
@@ -145,19 +149,19 @@ module _ {A : Type 0} (form : FormValue) (prefix : List ℕ) (found : List File 
     refused read.Memory e of_fault cause = absurd (of_fault.found refl)
     refused (read.TooLong kind) e of_fault (content, stops) =
         stopped (read.TooLong kind) e of_fault.ending (ap (λ (e : Ending). e.status) of_fault.ending)
-            (ap (λ (e : Ending). e.stored) of_fault.ending) stops
+        (ap (λ (e : Ending). e.stored) of_fault.ending) stops
     refused (read.Form kind fault) e of_fault (content, stops) =
         stopped (read.Form kind fault) e of_fault.ending (ap (λ (e : Ending). e.status) of_fault.ending)
-            (ap (λ (e : Ending). e.stored) of_fault.ending) stops
+        (ap (λ (e : Ending). e.stored) of_fault.ending) stops
     refused (read.Costs at) e of_fault (content, stops) =
         stopped (read.Costs at) e of_fault.ending (ap (λ (e : Ending). e.status) of_fault.ending)
-            (ap (λ (e : Ending). e.stored) of_fault.ending) stops
+        (ap (λ (e : Ending). e.stored) of_fault.ending) stops
     refused (read.Relations at) e of_fault (content, stops) =
         stopped (read.Relations at) e of_fault.ending (ap (λ (e : Ending). e.status) of_fault.ending)
-            (ap (λ (e : Ending). e.stored) of_fault.ending) stops
+        (ap (λ (e : Ending). e.stored) of_fault.ending) stops
     refused (read.Program fault) e of_fault (content, stops) =
         stopped (read.Program fault) e of_fault.ending (ap (λ (e : Ending). e.status) of_fault.ending)
-            (ap (λ (e : Ending). e.stored) of_fault.ending) stops
+        (ap (λ (e : Ending). e.stored) of_fault.ending) stops
 
     -- the same of the answer of a call
     pub answer_made : {E : Type 0} (r : Result Ending E) (a : A) → ForTold before.files (λ fs. found fs ≡ Ok a)
@@ -177,7 +181,7 @@ pub no_form : (before now : Folder) (form : Option FormValue) (e : Ending) → f
     IsAnswer form before now e
 no_form before now form e none is =
     subst (λ (f : Option FormValue). IsAnswer f before now e) (sym none)
-        (subst (IsAnswer None before now) (sym is) (record {
+    (subst (IsAnswer None before now) (sym is) (record {
       told = ForTold-all before.files _ (λ fs. inl ((λ same. absurd (cc)), refl, (λ written. absurd written)));
       read = λ same. absurd (cc);
       status = refl;

@@ -26,7 +26,7 @@ kernel_ending limit m e f (inr (basis, within, is)) (inl (exceeds, same)) =
 kernel_ending limit m e f (inr (basis, within, is)) (inr (other, too, same)) =
     let one : basis ≡ other = slack_basis_unique m basis other within.slack too.slack in
     is ∙ ap (λ (zs : List Vector). ending status.Done (matrix_text (record { cols = m.cols; rows = kernel m.cols zs })))
-        one ∙ sym same
+    one ∙ sym same
 
 -- one ending on what was read is one ending
 ending_of : {A : Type 0} (prefix : List ℕ) (read : Result A ReadFault) (Ends : A → Ending → Type 0)
@@ -44,7 +44,7 @@ form_ending (Some (GraverForm prefix limit)) files e f is same =
     ending_of prefix (plain_in files prefix) (IsKernelEnding limit) (λ m e f. kernel_ending limit m e f) e f is same
 form_ending (Some (CheckForm prefix relations)) files e f is same =
     ending_of prefix (claimed_in prefix relations files) (IsCheckEnding prefix) (λ a e f is same. is ∙ sym same) e f is
-        same
+    same
 
 pub ending_unique : (words : List Word) (files : List File) (e f : Ending) → IsEnding words files e
     → IsEnding words files f → e ≡ f

@@ -54,13 +54,16 @@ module _ (e : Ending) (before now : Scene) where
   gives_refusal s refusal untouched (inl (same, said)) =
       inr (inl (record { refusal = refusal; status = same; untouched = untouched; said = said }))
   gives_refusal s refusal untouched (inr (same, part)) =
-      inr (inr (inr (record { status = same; line = e.text; lines = inr (inr (refusal, refl)); said = part }, inl
-          untouched)))
+      inr (inr (inr (
+        record { status = same; line = e.text; lines = inr (inr (refusal, refl)); said = part },
+        inl
+            untouched,
+      )))
 
   -- what was begun is broken off, or memory runs out
   pub gives_broken : (s : Status) → IsWritten e.status → IsPart e before.folder now.folder before.out now.out
       → FailsGiving e before.folder now.folder before.out now.out
-          → IsSaid before.err now.err write_text status.WriteFault s → Gives e before now s
+      → IsSaid before.err now.err write_text status.WriteFault s → Gives e before now s
   gives_broken s written part cause (inl (same, said)) =
       inr (inr (inl (record { written = written; status = same; part = part; cause = cause; said = said })))
   gives_broken s written part cause (inr (same, took)) =

@@ -104,7 +104,7 @@ claimed_at claim point =
     ∷ file_of (codes "t.rhs") (codes "1 3 3 9 4")
     ∷ file_of (codes "t.cost") (codes "2 2 q 1 0 0 q 0 0 0 q 1 0 0 q 0 0 0")
     ∷ file_of (codes "t.cert") (codes "nfold-certificate 1 claim " ++ claim ++ codes " point 1 2 " ++ point ++ codes
-        " bricks 3 3 0 1 1 1 -1 0 1 0 1 end")
+    " bricks 3 3 0 1 1 1 -1 0 1 0 1 end")
     ∷ []
 
 pub shown : IsEnding check_t (claimed_at (codes "infeasible-brick 1") (codes "4 4"))

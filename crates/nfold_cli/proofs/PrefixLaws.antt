@@ -34,6 +34,6 @@ prefix_is_utf8 w is = IsUtf8-from_ascii w (name_bytes_ascii w (last_holds _ _ is
 -- bytes that are UTF-8 are read as a text
 pub read_as_text : {E : Type 0} (P : E → Type 0) (w : List ℕ) (r : Result (Bor (List ℕ)) E) → IsUtf8 w
     → MatchResult r (λ s. (s.now ≡ w) × IsUtf8 w) (λ e. ¬ (IsUtf8 w) × P e)
-        → option_map (λ (s : Bor (List ℕ)). s.now) (result_ok r) ≡ Some w
+    → option_map (λ (s : Bor (List ℕ)). s.now) (result_ok r) ≡ Some w
 read_as_text P w (Ok s) utf8 cases = ap Some cases.0
 read_as_text P w (Err e) utf8 cases = absurd (cases.0 utf8)

@@ -29,12 +29,28 @@ pub record IsBesideProgram (kind : FileKind) : Type 0 where
   pub costs : Differ kind file.Costs
 
 pub point_is_beside : IsBesideProgram file.Point
-point_is_beside = record { link = refl; brick = refl; lower = refl; upper = refl; right = refl; relations =
-    refl; costs = refl }
+point_is_beside = record {
+  link = refl;
+  brick = refl;
+  lower = refl;
+  upper = refl;
+  right = refl;
+  relations =
+      refl;
+  costs = refl;
+}
 
 pub certificate_is_beside : IsBesideProgram file.Cert
-certificate_is_beside = record { link = refl; brick = refl; lower = refl; upper = refl; right = refl; relations =
-    refl; costs = refl }
+certificate_is_beside = record {
+  link = refl;
+  brick = refl;
+  lower = refl;
+  upper = refl;
+  right = refl;
+  relations =
+      refl;
+  costs = refl;
+}
 
 module _ (files : List File) (prefix : List ℕ) (kind : FileKind) (beside : IsBesideProgram kind) where
   program_without : (asked : Bool) → program_in (without files (prefix ++ suffix_of kind)) prefix asked ≡ program_in
@@ -53,11 +69,11 @@ pub after_program : {A B : Type 0} (second : Program → List File → Result A 
     (asked : Bool)
     (before now : Folder) (prefix : List ℕ) (f : ReadFault) (kind : FileKind) (p : Program) → IsBesideProgram kind
     → ForTold before.files (λ fs. program_in fs prefix asked ≡ Ok p) → IsOfFile kind f
-        → IsReadCause (second p) before now prefix f
+    → IsReadCause (second p) before now prefix f
     → IsReadCause (λ fs. and_then (program_in fs prefix asked) (λ p. and_then (second p fs) (λ a. Ok (both p a))))
-        before now prefix f
+    before now prefix f
 after_program second both asked before now prefix f kind p beside told same cause =
     cause_rest (λ fs. program_in fs prefix asked) (λ p fs. and_then (second p fs) (λ a. Ok (both p a))) before now
-        prefix kind p
+    prefix kind p
     (record { told = told; others = λ fs. program_without fs prefix kind beside asked }) f same
     (cause_first (second p) (λ a fs. Ok (both p a)) before now prefix f cause)

@@ -158,7 +158,7 @@ module _ (words : List Word) (before now : Scene) (s : Status) where
   ends_answered e answer same =
       subst Ends (sym same)
       (ForTold-weaker before.folder.files _ _ (λ fs told. ends_as fs e e.status refl
-          (no_write_fault form e.status answer.status) told) answer.told)
+      (no_write_fault form e.status answer.status) told) answer.told)
 
   -- the status is that of the ending
   pub ends : Runs words before now s → Ends s
@@ -167,7 +167,7 @@ module _ (words : List Word) (before now : Scene) (s : Status) where
   ends (inl (e, answer, inr (inr (inl broken)))) =
       subst Ends (sym broken.status)
       (ForTold-weaker before.folder.files _ _ (λ fs told. (e, ending_begun fs e broken.written told, broken.written))
-          answer.told)
+      answer.told)
   ends (inl (e, answer, inr (inr (inr (memory, left))))) =
       subst Ends (sym memory.status) (ForTold-all before.folder.files _ (λ fs. tt))
   ends (inr (memory, untouched)) = subst Ends (sym memory.status) (ForTold-all before.folder.files _ (λ fs. tt))
@@ -239,20 +239,20 @@ module _ (words : List Word) (before now : Scene) (s : Status) where
   leaves_part : (e : Ending) → IsAnswer form before.folder now.folder e → IsWritten e.status
       → IsPart e before.folder now.folder before.out now.out
       → (t : Status) → ((b n : List File) (tb tn : List ℕ)
-          → SomeEnding words b (λ e. IsWritten e.status × GivesPart e b n tb tn) → Leaves words b n tb tn t)
+      → SomeEnding words b (λ e. IsWritten e.status × GivesPart e b n tb tn) → Leaves words b n tb tn t)
       → AreLeft t
   leaves_part e answer written (inl part) t follows =
       both_told before.folder.files now.folder.files before.out.taken now.out.taken (IsToldAs e)
-          (StoresPart e.stored) Same _
+      (StoresPart e.stored) Same _
       answer.told part.stored (same_told before.out.taken now.out.taken part.taken)
       (λ b n tb tn told stored kept. follows b n tb tn
-          (e, ending_begun b e written told, (written, inl (stored, kept))))
+      (e, ending_begun b e written told, (written, inl (stored, kept))))
   leaves_part e answer written (inr part) t follows =
       both_told before.folder.files now.folder.files before.out.taken now.out.taken (IsToldAs e) (Stores e.stored)
-          (TookPart e.text) _
+      (TookPart e.text) _
       answer.told part.stored part.took
       (λ b n tb tn told stored took. follows b n tb tn
-          (e, ending_begun b e written told, (written, inr (stored, took))))
+      (e, ending_begun b e written told, (written, inr (stored, took))))
 
   leaves_untouched : IsUntouched before now → (t : Status)
       → ((b n : List File) (tb tn : List ℕ) → n ≡ b → tn ≡ tb → Leaves words b n tb tn t) → AreLeft t
@@ -260,32 +260,32 @@ module _ (words : List Word) (before now : Scene) (s : Status) where
       both_told before.folder.files now.folder.files before.out.taken now.out.taken (λ fs. Unit {0}) Same Same _
       (ForTold-all before.folder.files _ (λ fs. tt)) (same_told before.folder.files now.folder.files untouched.files)
       (same_told before.out.taken now.out.taken untouched.taken)
-          (λ b n tb tn told same kept. follows b n tb tn same kept)
+      (λ b n tb tn told same kept. follows b n tb tn same kept)
 
   -- what is stored and written
   pub leaves : Runs words before now s → AreLeft s
   leaves (inl (e, answer, inl given)) =
       subst AreLeft (sym given.status)
       (both_told before.folder.files now.folder.files before.out.taken now.out.taken (IsToldAs e) (Stores e.stored)
-          (Took e.text) _
+      (Took e.text) _
       answer.told given.whole.stored given.whole.took
       (λ b n tb tn told stored took. leaves_given b n tb tn e.status given.written
       (e, ending_begun b e given.written told, (refl, record { stored = stored; took = took }))))
   leaves (inl (e, answer, inr (inl refused))) =
       subst AreLeft (sym refused.status)
       (leaves_untouched refused.untouched e.status (λ b n tb tn same kept. leaves_kept b n tb tn e.status
-          refused.refusal same kept))
+      refused.refusal same kept))
   leaves (inl (e, answer, inr (inr (inl broken)))) =
       subst AreLeft (sym broken.status) (leaves_part e answer broken.written broken.part status.WriteFault
-          (λ b n tb tn part. part))
+      (λ b n tb tn part. part))
   leaves (inl (e, answer, inr (inr (inr (memory, inl untouched))))) =
       subst AreLeft (sym memory.status) (leaves_untouched untouched status.Memory
-          (λ b n tb tn same kept. inl (same, kept)))
+      (λ b n tb tn same kept. inl (same, kept)))
   leaves (inl (e, answer, inr (inr (inr (memory, inr (written, part)))))) =
       subst AreLeft (sym memory.status) (leaves_part e answer written part status.Memory (λ b n tb tn part. inr part))
   leaves (inr (memory, untouched)) =
       subst AreLeft (sym memory.status) (leaves_untouched untouched status.Memory
-          (λ b n tb tn same kept. inl (same, kept)))
+      (λ b n tb tn same kept. inl (same, kept)))
 
   abbrev Changes : Type 0
   Changes = ForBoth before.folder.files now.folder.files (ChangesOnly (stored_by form))
@@ -294,13 +294,13 @@ module _ (words : List Word) (before now : Scene) (s : Status) where
       → ForBoth before.folder.files now.folder.files (Stores e.stored) → Changes
   changes_whole e answer stored =
       both_weaker before.folder.files now.folder.files _ _
-          (λ b n. changes_stored (stored_by form) e.stored b n answer.stored) stored
+      (λ b n. changes_stored (stored_by form) e.stored b n answer.stored) stored
 
   changes_broken : (e : Ending) → IsAnswer form before.folder now.folder e
       → IsPart e before.folder now.folder before.out now.out → Changes
   changes_broken e answer (inl part) =
       both_weaker before.folder.files now.folder.files _ _
-          (λ b n. changes_part (stored_by form) e.stored b n answer.stored) part.stored
+      (λ b n. changes_part (stored_by form) e.stored b n answer.stored) part.stored
   changes_broken e answer (inr part) = changes_whole e answer part.stored
 
   changes_untouched : IsUntouched before now → Changes
@@ -330,13 +330,18 @@ module _ (words : List Word) (before now : Scene) (s : Status) where
   -- what was written is true
   pub tells_truth : Runs words before now s → IsWritten s →
       ForBoth before.folder.files now.folder.files (λ b n. ForBoth before.out.taken now.out.taken
-          (λ tb tn. GivesTruth form b n tb tn s))
+      (λ tb tn. GivesTruth form b n tb tn s))
   tells_truth (inl (e, answer, inl given)) written =
       both_told before.folder.files now.folder.files before.out.taken now.out.taken (IsToldAs e) (Stores e.stored)
-          (Took e.text) _
+      (Took e.text) _
       answer.told given.whole.stored given.whole.took
-      (λ b n tb tn told stored took. (e, sym given.status, record { stored = stored; took = took }, told_truth form
-          Failed e b told given.written))
+      (λ b n tb tn told stored took. (
+        e,
+        sym given.status,
+        record { stored = stored; took = took },
+        told_truth form
+            Failed e b told given.written,
+      ))
   tells_truth (inl (e, answer, inr (inl refused))) written =
       absurd (written_or_refused e.status (subst IsWritten refused.status written) refused.refusal)
   tells_truth (inl (e, answer, inr (inr (inl broken)))) written = absurd (subst IsWritten broken.status written)
@@ -402,17 +407,17 @@ module _ (words : List Word) (before now : Scene) (s : Status) where
   pub says : Runs words before now s → IsSaidOf s
   says (inl (e, answer, inl given)) =
       subst IsSaidOf (sym given.status) (ForTold-all before.folder.files _
-          (λ fs. says_nothing fs e.status given.written given.quiet))
+      (λ fs. says_nothing fs e.status given.written given.quiet))
   says (inl (e, answer, inr (inl refused))) =
       subst IsSaidOf (sym refused.status)
       (ForTold-weaker before.folder.files _ _ (λ fs told. says_refusal fs e e.status refl refused.refusal told
-          refused.said) answer.told)
+      refused.said) answer.told)
   says (inl (e, answer, inr (inr (inl broken)))) =
       subst IsSaidOf (sym broken.status) (ForTold-all before.folder.files _ (λ fs. broken.said))
   says (inl (e, answer, inr (inr (inr (memory, left))))) =
       subst IsSaidOf (sym memory.status)
       (ForTold-weaker before.folder.files _ _ (λ fs told.
-          (memory.line, message fs e memory.line memory.lines told, memory.said)) answer.told)
+      (memory.line, message fs e memory.line memory.lines told, memory.said)) answer.told)
   says (inr (memory, untouched)) =
       subst IsSaidOf (sym memory.status)
       (ForTold-all before.folder.files _ (λ fs. (memory.line, inr (inl memory.lines), memory.said)))

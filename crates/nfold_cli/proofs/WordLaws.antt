@@ -31,7 +31,7 @@ module _ {V : Type 0} (f : V → Word) where
   -- a word that is `--rel`, where there was none
   pub relations_first : (o : Options) (ws : List V) (w : V) (found : Option Options) → 1 ≤ length ws → w ≡ get_or ws 0 w
       → (is_word (f w) (codes "--rel") && not o.relations) ≡ true
-          → found ≡ options_in (record o { relations = true }) (map f (drop 1 ws))
+      → found ≡ options_in (record o { relations = true }) (map f (drop 1 ws))
       → found ≡ options_in o (map f ws)
   relations_first o [] w found long is test rest = absurd (omega arith)
   relations_first o (a ∷ []) w found long is test rest =
@@ -47,7 +47,7 @@ module _ {V : Type 0} (f : V → Word) where
   pub basis_first : (o : Options) (ws : List V) (w again v : V) (n : ℕ) (found : Option Options) → 2 ≤ length ws
       → w ≡ get_or ws 0 w → again ≡ get_or ws 0 again → v ≡ get_or ws 1 v
       → (is_word (f w) (codes "--rel") && not o.relations) ≡ false
-          → (is_word (f again) (codes "--max-basis") && is_none o.basis) ≡ true
+      → (is_word (f again) (codes "--max-basis") && is_none o.basis) ≡ true
       → number_within 1 2000 (f v) ≡ Some n → found ≡ options_in (record o { basis = Some n }) (map f (drop 2 ws))
       → found ≡ options_in o (map f ws)
   basis_first o [] w again v n found long first same second other test value rest = absurd (omega arith)
@@ -58,7 +58,7 @@ module _ {V : Type 0} (f : V → Word) where
       let here : (is_word (f a) (codes "--max-basis") && is_none o.basis) ≡ true =
       subst (λ (u : V). (is_word (f u) (codes "--max-basis") && is_none o.basis) ≡ true) same test in
       let number : number_within 1 2000 (f b) ≡ Some n =
-          subst (λ (u : V). number_within 1 2000 (f u) ≡ Some n) second value in
+      subst (λ (u : V). number_within 1 2000 (f u) ≡ Some n) second value in
       rw (no, here, number) rest
 
   -- one word is no form
@@ -72,7 +72,7 @@ module _ {V : Type 0} (f : V → Word) where
       → 2 ≤ length ws
       → command ≡ get_or ws 0 command → word ≡ get_or ws 1 word → is_prefix (f word) ≡ true → prefix ≡ f word
       → options_in no_options (map f (drop 2 ws)) ≡ Some o → form ≡ command_form (f command) prefix o
-          → form ≡ form_of (map f ws)
+      → form ≡ form_of (map f ws)
   form_found [] command word prefix o form long first second is named options found = absurd (omega arith)
   form_found (a ∷ []) command word prefix o form long first second is named options found = absurd (omega arith)
   form_found (a ∷ b ∷ ws) command word prefix o form long first second is named options found =
@@ -80,5 +80,5 @@ module _ {V : Type 0} (f : V → Word) where
       let same : prefix ≡ f b = named ∙ ap f second in
       let made : form ≡ command_form (f a) (f b) o =
       subst (λ (u : V). form ≡ command_form (f u) (f b) o) first
-          (subst (λ (p : Word). form ≡ command_form (f command) p o) same found) in
+      (subst (λ (p : Word). form ≡ command_form (f command) p o) same found) in
       rw (here, options) made

@@ -108,7 +108,7 @@ IsHandCause e before now out_before out_now sink.Memory = Unit {0}
 abbrev pub IsSaid : Stream → Stream → List ℕ → Status → Status → Type 0
 IsSaid before now line s answered =
     ((answered ≡ s) × Said before now line) ⊎ ((answered ≡ status.Memory)
-        × ForBoth before.taken now.taken (TookPart line))
+    × ForBoth before.taken now.taken (TookPart line))
 
 -- the text was written whole, and nothing was said
 pub record IsGiven (e : Ending) (before now : Scene) (s : Status) : Type 0 where

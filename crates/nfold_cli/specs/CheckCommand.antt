@@ -29,7 +29,7 @@ pub record Claimed : Type 0 where
 abbrev pub claimed_in : Word → Bool → List File → Result Claimed ReadFault
 claimed_in prefix relations files =
     and_then (program_in files prefix relations) (λ p. and_then (certificate_in files prefix)
-        (λ bytes. Ok (record { program = p; bytes = bytes })))
+    (λ bytes. Ok (record { program = p; bytes = bytes })))
 
 abbrev pub checked_status : Check → Status
 checked_status (check.Yes v) = status.Done

@@ -22,7 +22,7 @@ pub record Pointed : Type 0 where
 abbrev pub pointed_in : Word → Bool → List File → Result Pointed ReadFault
 pointed_in prefix relations files =
     and_then (program_in files prefix relations) (λ p. and_then (point_in files prefix p)
-        (λ x. Ok (record { program = p; point = x.rows })))
+    (λ x. Ok (record { program = p; point = x.rows })))
 
 abbrev pub broken_status : Option Broken → Status
 broken_status None = status.Done

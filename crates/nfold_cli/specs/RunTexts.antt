@@ -31,7 +31,7 @@ spaced_text (a ∷ v) = codes " " ++ signed_decimal a ++ spaced_text v
 abbrev pub brick_step_text : ℕ → BrickMove → List ℕ
 brick_step_text i m =
     codes "brick " ++ decimal i ++ codes " length " ++ decimal (2 ^ m.k) ++ codes " vector" ++ spaced_text m.vector ++
-        codes "\n"
+    codes "\n"
 
 -- the lines of the bricks from number i on
 abbrev pub brick_runs_text : ℕ → List (List BrickMove) → List ℕ
@@ -48,7 +48,7 @@ parts_text t (i ∷ bricks) entries = codes " at " ++ decimal i ++ spaced_text (
 abbrev pub step_text : Phase → ℕ → Step → List ℕ
 step_text phase t s =
     phase_text phase ++ codes " length " ++ decimal (2 ^ s.k) ++ codes " gain " ++ decimal s.gain ++ parts_text t
-        s.bricks s.entries ++ codes "\n"
+    s.bricks s.entries ++ codes "\n"
 
 -- the line after the steps of a phase: how many there are, the bound number, and the binary digits of the whole gain
 abbrev pub made_text : Phase → ℕ → ℕ → ℕ → List ℕ

@@ -61,7 +61,7 @@ pub record GivesWhole (e : Ending) (before now : List File) (taken_before taken_
 abbrev pub GivesPart : Ending → List File → List File → List ℕ → List ℕ → Type 0
 GivesPart e before now taken_before taken_now =
     (StoresPart e.stored before now × (taken_now ≡ taken_before))
-        ⊎ (Stores e.stored before now × TookPart e.text taken_before taken_now)
+    ⊎ (Stores e.stored before now × TookPart e.text taken_before taken_now)
 
 -- what told files and a told output are after a run
 abbrev pub Leaves : List Word → List File → List File → List ℕ → List ℕ → Status → Type 0
@@ -73,7 +73,7 @@ Leaves words before now taken_before taken_now status.WriteFault =
     SomeEnding words before (λ e. IsWritten e.status × GivesPart e before now taken_before taken_now)
 Leaves words before now taken_before taken_now status.Memory =
     ((now ≡ before) × (taken_now ≡ taken_before)) ⊎ SomeEnding words before
-        (λ e. IsWritten e.status × GivesPart e before now taken_before taken_now)
+    (λ e. IsWritten e.status × GivesPart e before now taken_before taken_now)
 Leaves words before now taken_before taken_now s = (now ≡ before) × (taken_now ≡ taken_before)
 
 -- the ending was given whole, and what it says is true
@@ -93,7 +93,7 @@ IsMessage line =
 abbrev pub Said : Stream → Stream → List ℕ → Type 0
 Said before now line =
     ForBoth before.taken now.taken (Took line) ⊎ (SinkFailed before now
-        × ForBoth before.taken now.taken (TookPart line))
+    × ForBoth before.taken now.taken (TookPart line))
 
 -- the file that is named is absent or a read failed; every file before it is accepted, since without it the run ends
 -- there

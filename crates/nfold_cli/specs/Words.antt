@@ -25,7 +25,7 @@ is_prefix w = nat_le 1 (length w) && nat_le (length w) 200 && not (nat_eq (slice
 abbrev pub number_within : ℕ → ℕ → Word → Option ℕ
 number_within from to w =
     cond (is_digits w && nat_le (length w) 9 && nat_le from (digits_value w) && nat_le (digits_value w) to)
-        (Some (digits_value w)) None
+    (Some (digits_value w)) None
 
 -- a form of the command line, with what it is about
 pub data FormValue : Type 0 where

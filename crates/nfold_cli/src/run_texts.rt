@@ -115,7 +115,10 @@ mod tests {
     fn steps_and_phases_have_a_line(rt: HostRuntime) -> Result<(), Fail> {
         let alloc = rt.alloc();
         let brick = brick_step_text(alloc, 2, 2, &[0, -1])?;
-        assert_eq!(rt; brick.as_slice(), b"brick 2 length 4 vector 0 -1\n".as_slice());
+        assert_eq!(rt;
+            brick.as_slice(),
+            b"brick 2 length 4 vector 0 -1\n".as_slice()
+        );
         for (phase, made, gain, line) in [
             (Phase::Counted, 2, 3, "counted made 2 factor 20 digits 2\n"),
             (Phase::Closed, 1, 4, "closed made 1 factor 20 digits 3\n"),

@@ -4,11 +4,10 @@
 
 mod images;
 
-pub use images::image;
-
 ghost use Rattle.std.specs.Prelude.{◌≡◌, ◌<◌, ◌≤◌, ◌^◌, ℤ, pos, ◌+ℤ◌, ◌*ℤ◌, ◌≤ℤ◌, length, SomeIff, IfOk};
 ghost use Rattle.step_targets.specs.Targets.{Leads, after};
 
+pub use images::image;
 use std::alloc::{AllocError, Global};
 
 /// The vector after `2^k` times the part, where each entry is between its bounds.

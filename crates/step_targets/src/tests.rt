@@ -9,7 +9,10 @@ fn a_step_leads_to_its_bounds_and_not_past_them(rt: HostRuntime) -> Result<(), A
     let (lower, upper, at, part) = ([0, 0], [4, 4], [0, 4], [1, -1]);
     for (k, end) in [(0, [1, 3]), (1, [2, 2]), (2, [4, 0])] {
         let found = target(rt.alloc(), &lower, &upper, &at, &part, k)?;
-        assert!(rt; found.is_some_and(|v| v.as_slice() == end.as_slice()), "at {k}");
+        assert!(rt;
+            found.is_some_and(|v| v.as_slice() == end.as_slice()),
+            "at {k}"
+        );
     }
     assert!(rt; target(rt.alloc(), &lower, &upper, &at, &part, 3)?.is_none());
     Ok(())

@@ -6,14 +6,14 @@ use Rattle.nfold_cli.proofs.answering.answer_words.Goals as goal
 pub returns-in-Some-Point-clause-answer : goal.returns-in-Some-Point-clause-answer
 returns-in-Some-Point-clause-answer g c =
     by_form c.answer_point.result (g.S.Shelf.seen c.args.shelf.now) _ _
-        (PointForm c.in-Some-Point.prefix.now c.in-Some-Point.relations) (search rules) c.answer_point.ensures.answer
+    (PointForm c.in-Some-Point.prefix.now c.in-Some-Point.relations) (search rules) c.answer_point.ensures.answer
 
 pub returns-in-Some-Graver-clause-answer : goal.returns-in-Some-Graver-clause-answer
 returns-in-Some-Graver-clause-answer g c =
     by_form c.answer_graver.result (g.S.Shelf.seen c.args.shelf.now) _ _
-        (GraverForm c.in-Some-Graver.prefix.now c.in-Some-Graver.limit) (search rules) c.answer_graver.ensures.answer
+    (GraverForm c.in-Some-Graver.prefix.now c.in-Some-Graver.limit) (search rules) c.answer_graver.ensures.answer
 
 pub returns-in-Some-Check-clause-answer : goal.returns-in-Some-Check-clause-answer
 returns-in-Some-Check-clause-answer g c =
     by_form c.answer_check.result (g.S.Shelf.seen c.args.shelf.now) _ _
-        (CheckForm c.in-Some-Check.prefix.now c.in-Some-Check.relations) (search rules) c.answer_check.ensures.answer
+    (CheckForm c.in-Some-Check.prefix.now c.in-Some-Check.relations) (search rules) c.answer_check.ensures.answer

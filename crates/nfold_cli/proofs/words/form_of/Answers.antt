@@ -13,10 +13,10 @@ returns-clause-form c =
     let found = prefix_found (is_prefix c.as_slice.result.now) c.in_ok-prefix.prefix.now c.as_slice.result.now
     (ap (option_map (λ (p : Bor (List ℕ)). p.now)) (sym c.in_ok-prefix.was) ∙ c.prefix.ensures) in
     form_found (λ w. w.items) c.args.words.now c.command-item.result word c.in_ok-prefix.prefix.now
-        c.in_ok-options.options _ (omega arith)
+    c.in_ok-options.options _ (omega arith)
     c.command-item.is c.word-item.is (ap is_prefix (sym c.as_slice.ensures.value) ∙ found.0)
-        (found.1 ∙ c.as_slice.ensures.value)
+    (found.1 ∙ c.as_slice.ensures.value)
     (ap (λ ws. options_in no_options (map (λ w. w.items) ws)) (sym (rest_whole (λ w. w.items) 2 c.args.words.now)) ∙ sym
-        c.options_in.ensures.options ∙ c.in_ok-options.was)
+    c.options_in.ensures.options ∙ c.in_ok-options.was)
     (c.command_form.ensures.form ∙ ap (λ w. command_form w c.in_ok-prefix.prefix.now c.in_ok-options.options)
-        c.deref.ensures.value)
+    c.deref.ensures.value)

@@ -9,9 +9,9 @@ pub returns-in-Ok-clause-answer : goal.returns-in-Ok-clause-answer
 returns-in-Ok-clause-answer g c =
     let prefix = c.args.prefix.now in
     answer_made (PointForm prefix c.args.relations) prefix (pointed_in prefix c.args.relations) IsPointEnding
-        IsTruePoint (λ fs e is. is)
+    IsTruePoint (λ fs e is. is)
     (λ fs a e there holds. (a, there, holds)) (g.S.Shelf.seen c.args.shelf.now)
-        (g.S.Shelf.seen c.read_pointed.new.shelf) c.verdict.result
+    (g.S.Shelf.seen c.read_pointed.new.shelf) c.verdict.result
     (record { program = c.in-Ok.program; point = c.in-Ok.point }) c.in-Ok.ensures.pointed
     (λ e is. verdict_is_plain None c.in-Ok.program c.in-Ok.point e is) c.verdict.ensures.ends c.verdict.ensures.holds
 
@@ -19,7 +19,7 @@ pub returns-in-Err-clause-answer : goal.returns-in-Err-clause-answer
 returns-in-Err-clause-answer g c =
     let prefix = c.args.prefix.now in
     answer_refused (PointForm prefix c.args.relations) prefix (pointed_in prefix c.args.relations) IsPointEnding
-        IsTruePoint (λ fs e is. is)
+    IsTruePoint (λ fs e is. is)
     (λ fs a e there holds. (a, there, holds)) (g.S.Shelf.seen c.args.shelf.now)
-        (g.S.Shelf.seen c.read_pointed.new.shelf) c.refusal.result c.in-Err.fault c.refusal.ensures
-        c.in-Err.ensures.refused
+    (g.S.Shelf.seen c.read_pointed.new.shelf) c.refusal.result c.in-Err.fault c.refusal.ensures
+    c.in-Err.ensures.refused

@@ -18,12 +18,12 @@ returns-in_err-point-clause-refused g c =
     let p = c.in_ok-program.program in
     let fault = c.in_err-point.field-0.0 in
     let cause = cause_before (g.S.Shelf.seen c.args.shelf.now) (g.S.Shelf.seen c.read_program.new.shelf)
-        c.read_program.ensures.reads (g.S.Shelf.seen c.read_point.new.shelf) (λ fs. point_in fs prefix p) prefix fault
+    c.read_program.ensures.reads (g.S.Shelf.seen c.read_point.new.shelf) (λ fs. point_in fs prefix p) prefix fault
     c.in_err-point.ensures.refused in
     of_error c.from_residual-in_err-point.result fault
-        (IsReadCause (λ fs. pointed_in prefix c.args.relations fs) (g.S.Shelf.seen c.args.shelf.now)
-        (g.S.Shelf.seen c.read_point.new.shelf) prefix)
+    (IsReadCause (λ fs. pointed_in prefix c.args.relations fs) (g.S.Shelf.seen c.args.shelf.now)
+    (g.S.Shelf.seen c.read_point.new.shelf) prefix)
     c.from_residual-in_err-point.ensures.1
     (after_program (λ p fs. point_in fs prefix p) pointed c.args.relations (g.S.Shelf.seen c.args.shelf.now)
-        (g.S.Shelf.seen c.read_point.new.shelf) prefix fault Point p point_is_beside
+    (g.S.Shelf.seen c.read_point.new.shelf) prefix fault Point p point_is_beside
     c.in_ok-program.ensures.program c.in_err-point.ensures.file cause)
