@@ -1,0 +1,5 @@
+pub mod FactorLaws
+pub mod PointLaws
+pub mod StepLaws
+pub mod RoundLaws
+pub mod RunLaws

@@ -1,0 +1,72 @@
+use Rattle.std.proofs.Common.{◌≡◌, ◌-ℤ◌, ◌<ℤ◌, ◌∙◌, unsigned_abs, Some, refl, subst, arith, rules, to_z, FitsSigned}
+use Rattle.std.specs.Int.{w128}
+use Rattle.std.proofs.lemmas.Int.{ints, to_z-of_z}
+use Rattle.lattice_theory.specs.SignedSums.{vectors}
+use Rattle.fold_theory.specs.Programs.{IsProgram, phase_cost}
+use Rattle.run_theory.specs.Steps.{NoneAugments}
+use Rattle.run_theory.specs.Bests.{IsRuleStep}
+use Rattle.augment_run.proofs.RunLaws.{run_more, run_all, run_few, step_lowers, height_falls}
+use Rattle.augment_run.proofs.runs.run.Goals as goal
+
+pub cost_in_phase-after-requires : goal.cost_in_phase-after-requires
+cost_in_phase-after-requires g c =
+    let f = c.args.fold.now in
+    let x = c.args.point in
+    let y = c.loop-steps.point in
+    let program : IsProgram f.program = subst IsProgram c.program.ensures c.n.ensures.program in
+    let rule : IsRuleStep f y (Some c.in-Some.step) = subst (IsRuleStep f y) c.in-Some.is c.in_ok-step.ensures in
+    (run_more f x y c.in_ok-point.point c.loop-steps.steps.items _ c.in-Some.step program c.requires.sums c.loop-steps.invariant.so_far rule c.in_ok-point.ensures refl).start
+
+pub loop-steps-smaller : goal.loop-steps-smaller
+loop-steps-smaller g c =
+    let f = c.args.fold.now in
+    let x = c.args.point in
+    let y = c.loop-steps.point in
+    let program : IsProgram f.program = subst IsProgram c.program.ensures c.n.ensures.program in
+    let rule : IsRuleStep f y (Some c.in-Some.step) = subst (IsRuleStep f y) c.in-Some.is c.in_ok-step.ensures in
+    let lower = step_lowers f y c.in_ok-point.point c.in-Some.step rule c.in_ok-point.ensures in
+    let after : FitsSigned w128 c.cost_in_phase-after.result = search rules in
+    let now : FitsSigned w128 (to_z w128 c.loop-steps.after-bits) = search rules in
+    let less : c.cost_in_phase-after.result <ℤ to_z w128 c.loop-steps.after-bits = omega (arith, ints, lower, c.cost_in_phase-after.ensures, c.loop-steps.invariant.cost) in
+    simp to_z-of_z (height_falls c.cost_in_phase-after.result (to_z w128 c.loop-steps.after-bits) after now less)
+
+pub loop-steps-preserved : goal.loop-steps-preserved
+loop-steps-preserved g c =
+    let f = c.args.fold.now in
+    let x = c.args.point in
+    let y = c.loop-steps.point in
+    let program : IsProgram f.program = subst IsProgram c.program.ensures c.n.ensures.program in
+    let rule : IsRuleStep f y (Some c.in-Some.step) = subst (IsRuleStep f y) c.in-Some.is c.in_ok-step.ensures in
+    let after : FitsSigned w128 c.cost_in_phase-after.result = search rules in
+    record {
+      so_far =
+          run_more f x y c.in_ok-point.point c.loop-steps.steps.items c.push.new.self.items c.in-Some.step program c.requires.sums c.loop-steps.invariant.so_far rule
+          c.in_ok-point.ensures c.in_ok-push.ensures.items;
+      cost = simp to_z-of_z c.cost_in_phase-after.ensures;
+    }
+
+pub returns-clause-run : goal.returns-clause-run
+returns-clause-run g c =
+    let f = c.args.fold.now in
+    let x = c.args.point in
+    let y = c.loop-steps.point in
+    let none : NoneAugments f.program f.phase (vectors f.sums) y = subst (IsRuleStep f y) c.in_default.is c.in_ok-step.ensures in
+    let before : FitsSigned w128 c.cost_in_phase-before.result = search rules in
+    let told = simp to_z-of_z at c.abs_diff.ensures in
+    let gain : c.abs_diff.result ≡ unsigned_abs (phase_cost f.program f.phase x -ℤ phase_cost f.program f.phase y) =
+    told ∙ (λ i. unsigned_abs (c.cost_in_phase-before.ensures i -ℤ c.loop-steps.invariant.cost i)) in
+    run_all f x y c.loop-steps.steps.items c.abs_diff.result c.bound_number.result c.loop-steps.invariant.so_far none gain c.bound_number.ensures
+
+pub returns-clause-few : goal.returns-clause-few
+returns-clause-few g c =
+    let f = c.args.fold.now in
+    let x = c.args.point in
+    let y = c.loop-steps.point in
+    let none : NoneAugments f.program f.phase (vectors f.sums) y = subst (IsRuleStep f y) c.in_default.is c.in_ok-step.ensures in
+    let before : FitsSigned w128 c.cost_in_phase-before.result = search rules in
+    let told = simp to_z-of_z at c.abs_diff.ensures in
+    let gain : c.abs_diff.result ≡ unsigned_abs (phase_cost f.program f.phase x -ℤ phase_cost f.program f.phase y) =
+    told ∙ (λ i. unsigned_abs (c.cost_in_phase-before.ensures i -ℤ c.loop-steps.invariant.cost i)) in
+    let program : IsProgram f.program = subst IsProgram c.program.ensures c.n.ensures.program in
+    run_few f x y c.loop-steps.steps.items c.abs_diff.result c.bound_number.result program c.requires.sums c.requires.start c.loop-steps.invariant.so_far none gain
+    c.bound_number.ensures
