@@ -65,6 +65,9 @@ fn program(alloc: Global, right: [i64; 3]) -> Result<Program, Fail>
 fn started(alloc: Global, program: &Program) -> Result<Start, Fail>
     ensures { IfOk result (λ s. (basis : List Vector) × IsStarted program.now basis s) }
 {
+    if program.t() > 32 || program.s() > 16 {
+        return Err("more columns or rows than a program has")?;
+    }
     let basis = slack_basis(alloc, program.brick(), 2000)?;
     Ok(start(alloc, program, &basis)?)
 }
