@@ -1,23 +1,20 @@
 -- What the moves of a brick change its cost by, one move after the other.
-use Rattle.std.proofs.Common.{◌≡◌, ℕ, zero, suc, ◌+◌, ◌-◌, ◌<◌, ◌≤◌, ℤ, ◌-ℤ◌, ◌≤ℤ◌, unsigned_abs, List, [], ◌∷◌, ◌++◌, length, refl, ap, arith, sym, ◌∙◌, Some, None, Option, slice_get, subst, All, ◌⊎◌, inl, inr, get_or, FitsSigned, w64, pos, negsuc, ◌^◌}
-use Rattle.std.proofs.lemmas.Option.{slice_get-get_or, slice_get_within, get_or_from_slice_get}
-use Rattle.std.proofs.lemmas.List.{length-append}
-use Rattle.std.proofs.lemmas.Bool.{cases_lt}
+use Rattle.std.proofs.Common.{◌≡◌, ℕ, zero, suc, ◌≤◌, ℤ, ◌-ℤ◌, ◌≤ℤ◌, unsigned_abs, List, [], ◌∷◌, ◌++◌, length, refl, ap, arith, sym, ◌∙◌, Some, None, Option, slice_get, subst, All, ◌⊎◌, inl, inr, pos, ◌^◌}
+use Rattle.std.proofs.lemmas.Option.{slice_get_within, get_or_from_slice_get}
 use Rattle.std.proofs.lemmas.Int.{ints}
 use Rattle.std.specs.Prelude.{Vec}
 use Rattle.std.specs.declared.alloc.Global.{Global}
 use Rattle.std.specs.List.{AllZip}
-use Rattle.fold_theory.specs.declared.Phase.{Phase}
 use Rattle.fold_theory.specs.declared.Phase.TheVariants.{Closed}
 use Rattle.lattice_theory.specs.Vectors.{Vector, scale}
 use Rattle.lattice_laws.proofs.Conformal.{length-add}
 use Rattle.lattice_laws.proofs.Multiples.{length-scale}
-use Rattle.fold_theory.specs.Programs.{Program, IsProgram, Brick, IsBrick, brick_cost}
+use Rattle.fold_theory.specs.Programs.{Program, Brick, brick_cost}
 use Rattle.fold_program.specs.Places.{OfBrick}
 use Rattle.fold_program.specs.Refusals.{brick_magnitude, total_magnitude}
 use Rattle.step_targets.specs.Targets.{after, AreBetween, Leads}
 use Rattle.brick_dp.specs.Changes.{ForBrick, IsChange}
-use Rattle.brick_dp.proofs.CostLaws.{same_brick, brick_there, small_in_total}
+use Rattle.brick_dp.proofs.CostLaws.{same_brick, small_in_total}
 
 module _ {A : Type 0} where
   some_is : (a b : A) → Some a ≡ Some b → a ≡ b

@@ -1,11 +1,11 @@
 -- Filling the layers: each is put behind those that were filled before.
-use Rattle.std.proofs.Common.{◌≡◌, ℕ, zero, suc, ◌+◌, ◌-◌, ◌*◌, ◌^◌, ◌<◌, ◌≤◌, ℤ, ◌+ℤ◌, unsigned_abs, List, [], ◌∷◌, ◌++◌, length, drop, take, append-nil, sum_by, refl, ap, arith, sym, ◌∙◌, Some, None, Option, slice_get, subst, All, ◌⊎◌, inl, inr, true, get_or, Contains, replicate}
+use Rattle.std.proofs.Common.{◌≡◌, ℕ, zero, suc, ◌+◌, ◌-◌, ◌*◌, ◌^◌, ◌<◌, ◌≤◌, ℤ, unsigned_abs, List, [], ◌∷◌, ◌++◌, length, drop, take, append-nil, sum_by, refl, ap, arith, sym, ◌∙◌, Some, None, Option, slice_get, subst, All, ◌⊎◌, inl, inr, get_or, Contains, replicate}
 use Rattle.std.proofs.lemmas.Int.{ints}
 use Rattle.std.proofs.lemmas.List.{length-append, drop_all, take_all, length-replicate}
 use Rattle.std.proofs.lemmas.List.Sums.{sum_by-cons, sum_by-take-drop}
 use Rattle.std.proofs.lemmas.Option.{slice_get_within, get_or_from_slice_get, slice_get-get_or}
 use Rattle.std.proofs.Math.Seq.{drop-cons}
-use Rattle.lattice_theory.specs.Vectors.{Vector, is_rising, zeros}
+use Rattle.lattice_theory.specs.Vectors.{Vector, zeros}
 use Rattle.lattice_theory.specs.SignedSums.{vectors}
 use Rattle.fold_theory.specs.Programs.{Program, IsProgram, Brick, Bricks, IsWithin, AreWithin, link_rests}
 use Rattle.fold_program.specs.Points.{HasPointShape}
@@ -13,7 +13,7 @@ use Rattle.fold_program.specs.Refusals.{brick_magnitude, total_magnitude}
 use Rattle.run_theory.specs.Folds.{FoldValue}
 use Rattle.walk_laws.proofs.Candidates.{widths_within}
 use Rattle.walk_laws.proofs.BestWalks.{IsLeastRow, IsLeastWalk, least_end}
-use Rattle.sieve_laws.specs.Sieve.{Layer, Menu, Goes, MayStay, IsLayerOver, AreTops}
+use Rattle.sieve_laws.specs.Sieve.{Layer, Menu, MayStay, IsLayerOver, AreTops}
 use Rattle.sieve_laws.specs.declared.PricedMove.{PricedMove}
 use Rattle.sieve_laws.proofs.Rows.{row_over, may_stay}
 use Rattle.sieve_laws.proofs.Tops.{tops_none}

@@ -1,21 +1,19 @@
 -- The menu of a brick, one listed sum after the other, and those of all bricks.
-use Rattle.std.proofs.Common.{◌≡◌, ◌≢◌, ℕ, zero, suc, ◌+◌, ◌-◌, ◌*◌, ◌<◌, ◌≤◌, ℤ, pos, Bool, true, false, not, unsigned_abs, List, [], ◌∷◌, ◌++◌, length, refl, ap, arith, sym, ◌∙◌, Some, None, Option, slice_get, subst, All, ◌⊎◌, inl, inr, get_or}
+use Rattle.std.proofs.Common.{◌≡◌, ◌≢◌, ℕ, zero, suc, ◌+◌, ◌<◌, ◌≤◌, ℤ, pos, Bool, true, false, not, List, [], ◌∷◌, ◌++◌, length, refl, ap, arith, sym, ◌∙◌, Some, slice_get, subst, ◌⊎◌, inl, inr, get_or}
 use Rattle.std.proofs.lemmas.List.{length-append, length-map, length-set}
 use Rattle.std.proofs.Math.ListN.{set}
-use Rattle.std.proofs.lemmas.Option.{slice_get_within, get_or_from_slice_get, slice_get-get_or}
+use Rattle.std.proofs.lemmas.Option.{slice_get_within, slice_get-get_or}
 use Rattle.std.proofs.lemmas.Bool.{cases_lt, cases_order}
 use Rattle.std.specs.Prelude.{Vec}
 use Rattle.std.specs.declared.alloc.Global.{Global}
 use Rattle.lattice_theory.specs.Vectors.{Vector}
 use Rattle.lattice_theory.specs.SignedSums.{Sum, vectors}
-use Rattle.fold_theory.specs.Programs.{Program, Brick, Bricks, IsWithin}
-use Rattle.fold_program.specs.Refusals.{brick_magnitude}
+use Rattle.fold_theory.specs.Programs.{Brick, Bricks, IsWithin}
 use Rattle.run_theory.specs.Folds.{FoldValue}
-use Rattle.run_theory.specs.Walks.{brick_change}
 use Rattle.sieve_laws.specs.declared.PricedMove.{PricedMove}
-use Rattle.sieve_laws.specs.Sieve.{Menu, IsMenu, after}
+use Rattle.sieve_laws.specs.Sieve.{Menu, after}
 use Rattle.sieve_laws.proofs.Cells.{slice_get-set_same, slice_get-set_other}
-use Rattle.brick_dp.specs.Changes.{ForBrick, IsChange}
+use Rattle.brick_dp.specs.Changes.{IsChange}
 use Rattle.brick_dp.specs.Menus.{IsBrickMenu, AreMenus, menus_of}
 use Rattle.brick_dp.proofs.ChangeLaws.{at_same, slice_get-push}
 

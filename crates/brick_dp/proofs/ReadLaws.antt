@@ -1,5 +1,5 @@
 -- Reading the best walk off the layers: the moves so far begin it, and those that are not zero are written down.
-use Rattle.std.proofs.Common.{◌≡◌, ℕ, suc, ◌+◌, ◌-◌, ◌<◌, ℤ, pos, ◌-ℤ◌, ◌<ℤ◌, Bool, true, false, List, [], ◌∷◌, ◌++◌, length, drop, refl, ap, arith, sym, ◌∙◌, Some, None, Option, slice_get, subst, All, append_assoc, append-nil, unsigned_abs, IsTrue}
+use Rattle.std.proofs.Common.{◌≡◌, ℕ, suc, ◌+◌, ◌-◌, ◌<◌, ℤ, pos, ◌-ℤ◌, ◌<ℤ◌, Bool, true, false, List, [], ◌∷◌, ◌++◌, length, drop, refl, ap, arith, sym, ◌∙◌, Some, slice_get, subst, All, append_assoc, append-nil, unsigned_abs, IsTrue}
 use Rattle.std.proofs.lemmas.Int.{ints}
 use Rattle.std.proofs.lemmas.List.{drop_all, length-append}
 use Rattle.std.specs.Ordering.{is_le}
@@ -22,7 +22,7 @@ use Rattle.layer_sieve.specs.Reaching.{IsChoice}
 use Rattle.brick_dp.specs.Menus.{IsBrickMenu}
 use Rattle.brick_dp.specs.Tables.{IsLayer, AreLayers, IsFirstCost}
 use Rattle.brick_dp.proofs.ChangeLaws.{at_same}
-use Rattle.brick_dp.proofs.FillLaws.{there_at, drop_here}
+use Rattle.brick_dp.proofs.FillLaws.{drop_here}
 
 turned : (a : ℤ) → unsigned_abs (pos 0 -ℤ a) ≡ unsigned_abs a
 turned a = grind (arith, ints)

@@ -1,5 +1,5 @@
 -- What a flag says that tells whether a layer was changed, and counts that rise by at most so much in each round.
-use Rattle.std.proofs.Common.{◌≡◌, ℕ, ◌+◌, ◌*◌, ◌≤◌, ℤ, Bool, true, false, ◌||◌, List, length, get_or, refl, ap, arith, sym, ◌∙◌, Option, Some, None, subst}
+use Rattle.std.proofs.Common.{◌≡◌, ℕ, ◌+◌, ◌*◌, ◌≤◌, ℤ, Bool, true, false, ◌||◌, get_or, ap, arith, sym, ◌∙◌, Option, Some, None, subst}
 use Rattle.std.specs.Bool.{OnFalse}
 use Rattle.std.specs.Prelude.{IfSome}
 use Rattle.std.proofs.Math.ListN.{set}

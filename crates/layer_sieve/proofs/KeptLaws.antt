@@ -1,9 +1,8 @@
 -- Layers of which equal ones are kept once: what one more leaves.
-use Rattle.std.proofs.Common.{◌≡◌, ℕ, zero, suc, ◌+◌, ◌-◌, ◌<◌, ℤ, List, [], ◌∷◌, ◌++◌, length, map, refl, ap, arith, sym, ◌∙◌, All, Option, Some, slice_get, subst, get_or}
+use Rattle.std.proofs.Common.{◌≡◌, ℕ, zero, suc, ◌<◌, List, [], ◌∷◌, ◌++◌, length, map, refl, ap, arith, sym, ◌∙◌, All, Some, slice_get, subst}
 use Rattle.std.proofs.lemmas.List.Elements.{All-head, All-tail, All-cons, All-nil, All-push}
 use Rattle.std.proofs.lemmas.List.{length-append}
 use Rattle.std.proofs.lemmas.Option.{slice_get_within, get_or_from_slice_get}
-use Rattle.std.specs.Prelude.{Vec}
 use Rattle.sieve_laws.specs.Sieve.{Layer}
 use Rattle.sieve_laws.proofs.Cells.{at_same}
 use Rattle.layer_sieve.specs.Layers.{Row, row_at, AreKept}

@@ -1,5 +1,5 @@
 -- What a move reaches, and what it offers.
-use Rattle.std.proofs.Common.{◌≡◌, ℕ, ◌+◌, ◌^◌, ◌<◌, ◌≤◌, ℤ, ◌+ℤ◌, ◌-ℤ◌, true, List, length, refl, ap, arith, sym, ◌∙◌, Option, Some, None, slice_get, subst, ◌⊎◌, inl, inr, All, get_or, unsigned_abs, pos, negsuc, FitsSigned}
+use Rattle.std.proofs.Common.{◌≡◌, ℕ, ◌+◌, ◌^◌, ◌<◌, ◌≤◌, ℤ, ◌+ℤ◌, ◌-ℤ◌, true, List, length, refl, ap, arith, sym, ◌∙◌, Option, Some, None, slice_get, subst, ◌⊎◌, inl, inr, get_or, unsigned_abs, pos, negsuc, FitsSigned}
 use Rattle.std.specs.Int.{w128}
 use Rattle.std.proofs.lemmas.Int.{ints}
 use Rattle.std.proofs.lemmas.Option.{slice_get-get_or, slice_get_within}
@@ -8,12 +8,11 @@ use Rattle.std.proofs.lemmas.Bool.{cases_lt}
 use Rattle.lattice_theory.specs.Vectors.{Vector, is_rising}
 use Rattle.lattice_theory.specs.SignedSums.{Sum, vectors}
 use Rattle.sieve_laws.specs.declared.PricedMove.{PricedMove}
-use Rattle.sieve_laws.specs.Sieve.{Layer, Menu, Leads, Reaches, IsTarget, IsOffer, Goes, IsFirst}
+use Rattle.sieve_laws.specs.Sieve.{Layer, Menu, Leads, Reaches, IsTarget, Goes}
 use Rattle.sieve_laws.proofs.Cells.{at_same, not_none}
 use Rattle.sieve_laws.proofs.Lowering.{leads_once, reaches_once}
 use Rattle.layer_sieve.specs.declared.reaching.Reach.{Reach}
-use Rattle.layer_sieve.specs.declared.choices.Choice.{Choice}
-use Rattle.layer_sieve.specs.Reaching.{IsReach, IsChoice, AreAtMost}
+use Rattle.layer_sieve.specs.Reaching.{IsReach, IsChoice}
 
 pub read_at : {A : Type 0} (xs : List A) (i : ℕ) (d x : A) → i < length xs → get_or xs i d ≡ x → slice_get xs i ≡ Some x
 read_at xs i d x low is = slice_get-get_or xs i d low ∙ ap Some is

@@ -1,14 +1,14 @@
 -- Bounds that widen, one after the other.
-use Rattle.std.proofs.Common.{◌≡◌, ◌≢◌, ℕ, ◌+◌, ◌<◌, ◌≤◌, ℤ, ◌+ℤ◌, ◌-ℤ◌, List, length, refl, ap, arith, sym, ◌∙◌, Option, Some, None, slice_get, subst, ◌⊎◌, inl, inr, set}
+use Rattle.std.proofs.Common.{◌≡◌, ℕ, ◌+◌, ◌<◌, ◌≤◌, ℤ, ◌+ℤ◌, ◌-ℤ◌, List, length, refl, ap, arith, sym, ◌∙◌, Option, Some, None, slice_get, subst, ◌⊎◌, inl, inr, set}
 use Rattle.std.specs.Prelude.{IfSome, SomeIff}
-use Rattle.std.proofs.lemmas.Bool.{cases_lt, cases_order}
+use Rattle.std.proofs.lemmas.Bool.{cases_order}
 use Rattle.std.proofs.lemmas.List.{length-set}
 use Rattle.std.proofs.lemmas.Option.{slice_get_within}
 use Rattle.lattice_theory.specs.Vectors.{Vector}
 use Rattle.sieve_laws.specs.Sieve.{Layer, IsTop, AreTops}
 use Rattle.sieve_laws.proofs.Cells.{at_same, slice_get-set_same, slice_get-set_other}
 use Rattle.sieve_laws.proofs.Tops.{FallsBetween, top_wider}
-use Rattle.layer_sieve.specs.Falls.{AreKept, FallBetween, IsSpread, IsWider}
+use Rattle.layer_sieve.specs.Falls.{AreKept, IsSpread, IsWider}
 use Rattle.layer_sieve.proofs.FlagLaws.{if_some}
 
 -- the first n bounds are wider, the others as they were

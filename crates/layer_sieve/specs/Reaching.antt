@@ -1,5 +1,5 @@
 -- The sum that a move reaches, and what walks cost from there.
-use Rattle.std.specs.Prelude.{◌≡◌, ℕ, ◌≤◌, ◌^◌, ◌<◌, ℤ, unsigned_abs, List, length, All, Option, Some, None, slice_get}
+use Rattle.std.specs.Prelude.{◌≡◌, ℕ, ◌≤◌, ◌^◌, ◌<◌, ℤ, unsigned_abs, List, Option, Some, None, slice_get}
 use Rattle.lattice_theory.specs.Vectors.{Vector}
 use Rattle.sieve_laws.specs.declared.PricedMove.{PricedMove}
 use Rattle.sieve_laws.specs.Sieve.{Layer, Menu, Leads, Reaches, IsFirst}

@@ -1,6 +1,6 @@
 //! Layers of least costs, from the last one to the first.
 
-ghost use Rattle.std.specs.Prelude.{◌≡◌, ◌<◌, ◌-◌, ◌++◌, ◌∷◌, [], length, Some, IfOk, OnOk, slice_get};
+ghost use Rattle.std.specs.Prelude.{◌≡◌, ◌<◌, ◌+◌, ◌-◌, ◌++◌, ◌∷◌, [], length, Some, IfOk, OnOk, slice_get};
 ghost use Rattle.sieve_laws.specs.Sieve.{Layer};
 
 use std::alloc::{AllocError, Global};
@@ -49,7 +49,8 @@ impl Layers {
 
     /// The last layer once more.
     pub fn repeat(&mut self) -> Result<(), AllocError>
-        ensures { OnOk result ((layer : Layer) → slice_get self.old (length self.old - 1) ≡ Some layer → self.new ≡ self.old ++ layer ∷ []) }
+        ensures again { OnOk result ((layer : Layer) → slice_get self.old (length self.old - 1) ≡ Some layer → self.new ≡ self.old ++ layer ∷ []) }
+        ensures count { OnOk result (length self.new ≡ length self.old + 1) }
     {
         let place = self.places[self.places.len() - 1];
         self.places.push(place)?;

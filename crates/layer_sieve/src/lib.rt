@@ -20,3 +20,6 @@ pub use moves::Moves;
 pub use sieve_laws::PricedMove;
 pub use targets::Targets;
 pub use tops::widen;
+
+#[cfg(test)]
+mod tests;

@@ -1,10 +1,9 @@
-use Rattle.std.proofs.Common.{◌≡◌, ◌<◌, ◌∙◌, ◌≤ℤ◌, ◌<ℤ◌, ◌+◌, pos, ap, sym, subst, arith, rules, length, slice_get, Some, None, FitsSigned, List, Contains, ℤ}
+use Rattle.std.proofs.Common.{◌≡◌, ◌∙◌, ◌≤ℤ◌, pos, ap, sym, subst, arith, rules, length, slice_get, Some, None, FitsSigned, List, ℤ}
 use Rattle.std.specs.Int.{w128}
 use Rattle.std.proofs.lemmas.Int.{ints, to_z-of_z}
-use Rattle.std.proofs.lemmas.List.{length-map}
 use Rattle.std.proofs.lemmas.Option.{slice_get_within, get_or_from_slice_get}
 use Rattle.lattice_theory.specs.SignedSums.{Sum, vectors}
-use Rattle.lattice_theory.specs.Vectors.{Vector, zeros}
+use Rattle.lattice_theory.specs.Vectors.{zeros}
 use Rattle.fold_theory.specs.Programs.{Program, IsProgram}
 use Rattle.brick_sums.specs.Places.{width}
 use Rattle.layer_sieve.proofs.ReachLaws.{read_at}

@@ -1,7 +1,6 @@
-use Rattle.std.proofs.Common.{◌≡◌, ◌∙◌, ◌≤◌, ◌^◌, ◌-ℤ◌, sym, ap, subst, arith, rules, Some, FitsSigned, unsigned_abs}
+use Rattle.std.proofs.Common.{◌∙◌, ◌-ℤ◌, sym, subst, arith, rules, Some, FitsSigned}
 use Rattle.std.specs.Int.{w128}
 use Rattle.std.proofs.lemmas.Int.{to_z-of_z, fits_signed_from_abs}
-use Rattle.fold_theory.specs.Programs.{Program}
 use Rattle.fold_theory.specs.declared.Phase.TheVariants as phase
 use Rattle.fold_program.specs.Places.{OfBrick}
 use Rattle.brick_dp.specs.Changes.{IsChange}

@@ -1,4 +1,4 @@
-use Rattle.std.proofs.Common.{rules, ◌≡◌, ◌+◌, ◌-◌, ◌≤◌, ◌^◌, ◌+ℤ◌, ℤ, pos, unsigned_abs, FitsSigned, to_z, w64, get_or, arith, refl}
+use Rattle.std.proofs.Common.{rules, ◌+◌, ◌-◌, ◌≤◌, ◌^◌, ◌+ℤ◌, ℤ, pos, unsigned_abs, FitsSigned, to_z, w64, get_or, arith, refl}
 use Rattle.std.specs.Int.{w128}
 use Rattle.std.proofs.lemmas.Int.{to_z-of_z, fits_signed_from_abs}
 use Rattle.brick_dp.proofs.CostLaws.{column_within, cost_none, cost_more, cost_small, sums_all, small_all}

@@ -1,6 +1,6 @@
-use Rattle.std.proofs.Common.{◌≡◌, ◌∙◌, ◌^◌, ap, sym, arith, length}
+use Rattle.std.proofs.Common.{◌≡◌, ◌∙◌, ◌^◌, ap, length}
 use Rattle.lattice_theory.specs.SignedSums.{vectors}
-use Rattle.fold_theory.specs.Programs.{Program, IsProgram, link_rests}
+use Rattle.fold_theory.specs.Programs.{link_rests}
 use Rattle.brick_dp.specs.Ends.{ending}
 use Rattle.brick_dp.proofs.EndLaws.{length-rests, ending_is, AreAtMost-push}
 use Rattle.brick_dp.proofs.LayerLaws.{nodes_more}

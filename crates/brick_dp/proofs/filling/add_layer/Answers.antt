@@ -1,4 +1,4 @@
-use Rattle.std.proofs.Common.{◌≡◌, ◌∙◌, ap, sym, subst, Some, slice_get}
+use Rattle.std.proofs.Common.{◌≡◌, ◌∙◌, ap, sym, subst, slice_get}
 use Rattle.lattice_theory.specs.SignedSums.{vectors}
 use Rattle.sieve_laws.specs.Sieve.{Layer, MayStay}
 use Rattle.sieve_laws.proofs.Lowering.{never_above}

@@ -1,14 +1,13 @@
-use Rattle.std.proofs.Common.{◌≡◌, ◌∙◌, ◌+◌, ◌-◌, ◌*◌, ◌≤◌, ◌<◌, ◌^◌, ap, sym, arith, rules, length, subst, slice_get, Some, None, ◌∷◌, [], ◌++◌, List, Option, ℤ, ℕ, All, replicate}
+use Rattle.std.proofs.Common.{◌≡◌, ◌∙◌, ◌+◌, ◌-◌, ◌*◌, ◌≤◌, ◌^◌, ap, sym, arith, rules, length, subst, slice_get, Some, None, ◌∷◌, [], ◌++◌, List, All, replicate}
 use Rattle.std.proofs.lemmas.List.{length-map}
 use Rattle.lattice_theory.specs.SignedSums.{Sum, vectors}
 use Rattle.lattice_theory.specs.Vectors.{Vector, zeros}
-use Rattle.fold_theory.specs.Programs.{Program, IsProgram, Brick}
+use Rattle.fold_theory.specs.Programs.{Program, IsProgram}
 use Rattle.fold_program.specs.Refusals.{total_magnitude}
 use Rattle.sieve_laws.specs.Sieve.{Layer, AreTops, IsLayerOver, MayStay}
 use Rattle.layer_sieve.specs.Reaching.{AreAtMost, IsFair}
-use Rattle.brick_dp.specs.Tables.{AreLayers}
 use Rattle.brick_dp.proofs.MenuLaws.{menu_short, slice_get-last}
-use Rattle.brick_dp.proofs.FillLaws.{shape_of, length-within, layers_one, layers_more, stays, most_small, fair_menu, at_brick, AtBrick, buffer, place_of, tops_fresh, tops_same}
+use Rattle.brick_dp.proofs.FillLaws.{shape_of, length-within, layers_one, layers_more, stays, most_small, fair_menu, at_brick, buffer, place_of, tops_fresh, tops_same}
 use Rattle.brick_dp.proofs.LayerLaws.{count_round, count_more, count_all}
 use Rattle.brick_dp.proofs.filling.layers.Goals as goal
 

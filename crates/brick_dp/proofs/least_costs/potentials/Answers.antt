@@ -1,7 +1,7 @@
-use Rattle.std.proofs.Common.{◌≡◌, ◌∙◌, ap, sym, subst, length, slice_get, Some, List, Contains}
+use Rattle.std.proofs.Common.{◌≡◌, ◌∙◌, ap, sym, subst, length, slice_get, Some, List}
 use Rattle.std.proofs.lemmas.Option.{slice_get_within, get_or_from_slice_get}
 use Rattle.lattice_theory.specs.SignedSums.{Sum, vectors}
-use Rattle.lattice_theory.specs.Vectors.{Vector, zeros}
+use Rattle.lattice_theory.specs.Vectors.{zeros}
 use Rattle.run_theory.specs.Outcomes.{ArePotentials}
 use Rattle.brick_sums.specs.Places.{width}
 use Rattle.brick_dp.proofs.BestLaws.{zero_at}

@@ -1,8 +1,6 @@
-use Rattle.std.proofs.Common.{◌≡◌, ◌∙◌, ◌+◌, ap, sym, arith, rules, length, List, FitsSigned, subst, Some, None}
+use Rattle.std.proofs.Common.{◌+◌, ap, sym, arith, rules, length, FitsSigned, subst}
 use Rattle.std.specs.Int.{w128}
 use Rattle.std.proofs.lemmas.Int.{to_z-of_z}
-use Rattle.lattice_theory.specs.SignedSums.{Sum, vectors}
-use Rattle.fold_theory.specs.Programs.{Brick}
 use Rattle.sieve_laws.specs.Sieve.{Menu}
 use Rattle.brick_dp.specs.Changes.{IsChange}
 use Rattle.brick_dp.proofs.ChangeLaws.{for_brick}

@@ -1,4 +1,4 @@
-use Rattle.std.proofs.Common.{◌≡◌, ◌-◌, ◌∙◌, ◌+◌, ◌<◌, ◌≤◌, ◌^◌, ap, sym, subst, arith, rules, length, slice_get, Some, List, FitsSigned, ℤ, ℕ, All, to_z}
+use Rattle.std.proofs.Common.{◌≡◌, ◌-◌, ◌∙◌, ◌+◌, ◌≤◌, ◌^◌, ap, sym, subst, arith, rules, length, slice_get, Some, List, FitsSigned, ℕ, All, to_z}
 use Rattle.std.specs.Int.{w128}
 use Rattle.std.proofs.lemmas.Int.{to_z-of_z}
 use Rattle.std.proofs.lemmas.List.{length-map}
@@ -9,7 +9,7 @@ use Rattle.fold_theory.specs.Programs.{Program, IsProgram}
 use Rattle.fold_program.specs.Refusals.{total_magnitude}
 use Rattle.brick_sums.specs.Places.{width}
 use Rattle.sieve_laws.specs.Sieve.{Goes}
-use Rattle.layer_sieve.specs.Reaching.{IsFair, IsChoice, AreAtMost}
+use Rattle.layer_sieve.specs.Reaching.{IsFair, IsChoice}
 use Rattle.brick_dp.proofs.FillLaws.{length-within, at_brick, fair_menu, most_small}
 use Rattle.brick_dp.proofs.ReadLaws.{Reading, reading_none, reading_more, reading_found, choice_there}
 use Rattle.brick_dp.proofs.BestLaws.{zero_at}

@@ -1,4 +1,4 @@
-use Rattle.std.proofs.Common.{◌≡◌, arith, rules, sym, ap, subst, length, refl, ◌∙◌, FitsSigned, ◌+ℤ◌, get_or, pos, Some, ℤ, ℕ, ◌<◌, to_z, of_z}
+use Rattle.std.proofs.Common.{◌≡◌, arith, rules, sym, ap, ◌∙◌, FitsSigned, ◌+ℤ◌, get_or, pos, ℕ, ◌<◌, to_z, of_z}
 use Rattle.std.specs.Int.{w128}
 use Rattle.std.proofs.lemmas.Int.{to_z-of_z}
 use Rattle.std.proofs.lemmas.Option.{slice_get-get_or, slice_get_within}

@@ -1,9 +1,9 @@
-use Rattle.std.proofs.Common.{◌≡◌, ◌<◌, ◌+◌, arith, rules, ap, sym, ◌∙◌, None, Some, get_or, length, FitsSigned, subst, List, Option, ℤ, set}
+use Rattle.std.proofs.Common.{◌+◌, arith, rules, ap, sym, ◌∙◌, None, Some, FitsSigned, subst, set}
 use Rattle.std.specs.Int.{w128}
 use Rattle.std.proofs.lemmas.Int.{to_z-of_z}
 use Rattle.std.proofs.lemmas.Option.{slice_get-get_or}
 use Rattle.lattice_theory.specs.SignedSums.{vectors}
-use Rattle.sieve_laws.specs.Sieve.{IsOffer, Layer}
+use Rattle.sieve_laws.specs.Sieve.{Layer}
 use Rattle.sieve_laws.proofs.Lowering.{IsLoweredUpTo, sums_more, sums_unreached, sums_all}
 use Rattle.layer_sieve.proofs.FlagLaws.{same_more, same_cell, same_kept, same_told}
 use Rattle.layer_sieve.proofs.lowering.lower.Goals as goal

@@ -1,10 +1,9 @@
-use Rattle.std.proofs.Common.{◌≡◌, ◌+◌, arith, rules, sym, ap, subst, length, refl, ◌∙◌, get_or, pos, true, false}
+use Rattle.std.proofs.Common.{◌≡◌, ◌+◌, arith, rules, sym, subst, length, ◌∙◌}
 use Rattle.std.proofs.lemmas.Option.{slice_get-get_or}
 use Rattle.std.proofs.lemmas.Bool.{OnTrue_at}
 use Rattle.std.specs.Bool.{OnFalse}
 use Rattle.lattice_theory.specs.SignedSums.{vectors}
 use Rattle.sieve_laws.specs.Sieve.{Layer}
-use Rattle.sieve_laws.specs.declared.PricedMove.{PricedMove}
 use Rattle.sieve_laws.proofs.Lowering.{IsLowered, lowered_none, lowered_idle, lowered_more, lowered_all}
 use Rattle.layer_sieve.proofs.FlagLaws.{same_more, same_kept, same_told, count_more}
 use Rattle.layer_sieve.proofs.ReachLaws.{size_vectors}

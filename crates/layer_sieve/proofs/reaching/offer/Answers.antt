@@ -1,4 +1,4 @@
-use Rattle.std.proofs.Common.{arith, rules, FitsSigned, ◌+ℤ◌, refl}
+use Rattle.std.proofs.Common.{rules, FitsSigned, ◌+ℤ◌}
 use Rattle.std.specs.Int.{w128}
 use Rattle.std.proofs.lemmas.Int.{to_z-of_z}
 use Rattle.layer_sieve.proofs.ReachLaws.{sum_fits}

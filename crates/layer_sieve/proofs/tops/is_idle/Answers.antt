@@ -1,4 +1,4 @@
-use Rattle.std.proofs.Common.{◌≡◌, ◌<◌, arith, rules, sym, None, Some, subst, length, List, Option, ℤ, get_or, FitsSigned}
+use Rattle.std.proofs.Common.{◌<◌, arith, rules, sym, None, Some, subst, length, List, Option, ℤ, get_or, FitsSigned}
 use Rattle.std.specs.Int.{w128}
 use Rattle.std.proofs.lemmas.Int.{to_z-of_z}
 use Rattle.std.proofs.lemmas.Bool.{OnTrue_from, OnTrue_at}

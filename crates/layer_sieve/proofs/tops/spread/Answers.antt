@@ -1,4 +1,4 @@
-use Rattle.std.proofs.Common.{◌≡◌, ◌-ℤ◌, ◌+◌, ◌<◌, arith, rules, ap, sym, ◌∙◌, None, Some, length, FitsSigned, to_z}
+use Rattle.std.proofs.Common.{◌≡◌, ◌-ℤ◌, ◌+◌, ◌<◌, arith, rules, None, Some, length, FitsSigned, to_z}
 use Rattle.std.specs.Int.{w128}
 use Rattle.std.proofs.lemmas.Int.{to_z-of_z, ints}
 use Rattle.sieve_laws.proofs.Tops.{falls_more, falls_empty}

@@ -1,4 +1,4 @@
-use Rattle.std.proofs.Common.{◌≡◌, ◌<◌, ◌-ℤ◌, ◌+◌, arith, rules, ap, sym, ◌∙◌, None, Some, get_or, length, FitsSigned, subst, ℤ}
+use Rattle.std.proofs.Common.{◌<◌, ◌-ℤ◌, ◌+◌, arith, rules, sym, None, Some, length, FitsSigned, subst}
 use Rattle.std.specs.Int.{w128}
 use Rattle.std.proofs.lemmas.Int.{to_z-of_z}
 use Rattle.lattice_theory.specs.SignedSums.{vectors}

@@ -1,4 +1,4 @@
-use Rattle.std.proofs.Common.{None, arith, length, get_or, refl}
+use Rattle.std.proofs.Common.{None, arith, get_or, refl}
 use Rattle.std.proofs.lemmas.Option.{slice_get-get_or}
 use Rattle.lattice_theory.specs.SignedSums.{vectors}
 use Rattle.layer_sieve.proofs.WiderLaws.{wider_none, wider_more, wider_all}

@@ -1,9 +1,8 @@
-use Rattle.std.proofs.Common.{◌≡◌, ◌∙◌, ◌+◌, ◌-◌, ◌<◌, ap, sym, arith, rules, length, subst, slice_get, Some, List}
+use Rattle.std.proofs.Common.{◌≡◌, ◌∙◌, ◌+◌, ◌-◌, ap, sym, arith, length, subst, slice_get, Some, List}
 use Rattle.std.specs.Cmp.Rules.{signed_items}
-use Rattle.fold_theory.specs.Programs.{Program, IsProgram, Brick, Bricks}
+use Rattle.fold_theory.specs.Programs.{Program, IsProgram}
 use Rattle.brick_dp.specs.declared.menus.Menus.TheInside.{Inside}
-use Rattle.sieve_laws.specs.Sieve.{Menu}
-use Rattle.brick_dp.specs.Menus.{IsBrickMenu, AreMenus}
+use Rattle.brick_dp.specs.Menus.{AreMenus}
 use Rattle.brick_dp.proofs.ChangeLaws.{sized_at}
 use Rattle.brick_dp.proofs.FillLaws.{shape_of, within_at}
 use Rattle.brick_dp.proofs.MenuLaws.{Kept, AreFollowing, following_none, following_same, following_new, following_all, not_false}

@@ -1,6 +1,5 @@
-use Rattle.std.proofs.Common.{◌≡◌, ◌∙◌, ◌+◌, ◌-◌, ap, sym, arith, rules, length, subst, slice_get, Some}
-use Rattle.fold_theory.specs.Programs.{Program, IsProgram, Brick}
-use Rattle.brick_dp.specs.Menus.{IsBrickMenu}
+use Rattle.std.proofs.Common.{◌≡◌, ◌∙◌, ◌+◌, ◌-◌, ap, sym, arith, length, subst, slice_get}
+use Rattle.fold_theory.specs.Programs.{Program, IsProgram}
 use Rattle.brick_dp.proofs.ChangeLaws.{sized_at}
 use Rattle.brick_dp.proofs.FillLaws.{shape_of, within_at}
 use Rattle.brick_dp.proofs.MenuLaws.{menus_more, menus_all}

@@ -1,4 +1,4 @@
-use Rattle.std.proofs.Common.{◌≡◌, ◌<◌, arith, sym, ◌∙◌, ap, length, slice_get, Some}
+use Rattle.std.proofs.Common.{◌<◌, arith, sym, ◌∙◌, ap, length, slice_get, Some}
 use Rattle.std.proofs.lemmas.List.{length-map}
 use Rattle.layer_sieve.specs.Layers.{row_at}
 use Rattle.layer_sieve.proofs.KeptLaws.{slice_get-layers, row_at-get, place_low}
