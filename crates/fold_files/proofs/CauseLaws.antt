@@ -82,8 +82,10 @@ module _ {A B : Type 0} (first : List File → Result A ReadFault) (rest : A →
     pub told : ForTold files (λ fs. first fs ≡ Ok a)
     pub others : (fs : List File) → first (without fs (prefix ++ suffix_of kind)) ≡ first fs
 
-  module _ (before now : Folder) (prefix : List ℕ) (kind : FileKind) (a : A) (passes : Passes before.files prefix kind a) where
-    stops_rest : (f : ReadFault) → ForTold before.files (λ fs. rest a fs ≡ Err f) → ForTold before.files (λ fs. both fs ≡ Err f)
+  module _ (before now : Folder) (prefix : List ℕ) (kind : FileKind) (a : A)
+      (passes : Passes before.files prefix kind a) where
+    stops_rest : (f : ReadFault) → ForTold before.files (λ fs. rest a fs ≡ Err f)
+        → ForTold before.files (λ fs. both fs ≡ Err f)
     stops_rest f stops = ForTold-both before.files _ _ _ (λ fs e r. rw e r) passes.told stops
 
     -- where the first gives something, the first fault of the other on it is that of both
@@ -135,7 +137,8 @@ module _ (before now : Folder) (prefix : List ℕ) (found : List File → Result
     abbrev pub formed : List ℕ → Result Matrix ReadFault
     formed b = as_form kind (parsed b)
 
-    stops_form : (f : MatFault) → parsed bytes ≡ Err f → ForTold before.files (λ fs. and_then (found fs) formed ≡ Err (read.Form kind f))
+    stops_form : (f : MatFault) → parsed bytes ≡ Err f
+        → ForTold before.files (λ fs. and_then (found fs) formed ≡ Err (read.Form kind f))
     stops_form f refused = stops_then formed (read.Form kind f) (ap (as_form kind) refused)
 
     -- why a matrix file is refused is why no matrix is read
@@ -150,15 +153,20 @@ module _ (before now : Folder) (prefix : List ℕ) (found : List File → Result
     form_refused (mat.Shape at got from to) is = (tt, stops_form (mat.Shape at got from to) is)
 
   -- why the cost file is refused is why no costs are read
-  pub costs_refused : {A : Type 0} (parsed : List ℕ → Result A CostFileFault) (kept : Result A CostFileFault → Result A ReadFault)
-      → ((f : CostFileFault) → kept (Err f) ≡ Err (costs_fault f)) → (fault : CostFileFault) → IsCostFileFault (parsed bytes) fault
+  pub costs_refused : {A : Type 0} (parsed : List ℕ → Result A CostFileFault)
+      (kept : Result A CostFileFault → Result A ReadFault)
+      → ((f : CostFileFault) → kept (Err f) ≡ Err (costs_fault f)) → (fault : CostFileFault)
+      → IsCostFileFault (parsed bytes) fault
       → IsReadCause (λ fs. and_then (found fs) (λ b. kept (parsed b))) before now prefix (costs_fault fault)
   costs_refused parsed kept stays cost.Memory is = tt
-  costs_refused parsed kept stays (cost.Syntax at) is = (tt, stops_then (λ b. kept (parsed b)) (read.Costs at) (ap kept is ∙ stays (cost.Syntax at)))
+  costs_refused parsed kept stays (cost.Syntax at) is =
+      (tt, stops_then (λ b. kept (parsed b)) (read.Costs at) (ap kept is ∙ stays (cost.Syntax at)))
 
   -- and so of the relation file
-  pub relations_refused : {A : Type 0} (parsed : List ℕ → Result A RelationFault) (kept : Result A RelationFault → Result A ReadFault)
-      → ((f : RelationFault) → kept (Err f) ≡ Err (relations_fault f)) → (fault : RelationFault) → IsRelationFault (parsed bytes) fault
+  pub relations_refused : {A : Type 0} (parsed : List ℕ → Result A RelationFault)
+      (kept : Result A RelationFault → Result A ReadFault)
+      → ((f : RelationFault) → kept (Err f) ≡ Err (relations_fault f)) → (fault : RelationFault)
+      → IsRelationFault (parsed bytes) fault
       → IsReadCause (λ fs. and_then (found fs) (λ b. kept (parsed b))) before now prefix (relations_fault fault)
   relations_refused parsed kept stays relation.Memory is = tt
   relations_refused parsed kept stays (relation.Syntax at) is =

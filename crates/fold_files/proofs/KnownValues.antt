@@ -146,7 +146,8 @@ pub short_bounds : program_in (files_with (codes "1 2 -1 -1")) (codes "t") false
     (read.Form file.Upper (mat.Shape 0 (pos 1) 2 2))
 short_bounds = refl
 
-pub crossed_bounds : program_in (files_with (codes "2 2 4 -1 -1 4")) (codes "t") false ≡ Err (read.Program (program.CrossedBounds 1 2))
+pub crossed_bounds : program_in (files_with (codes "2 2 4 -1 -1 4")) (codes "t") false ≡ Err
+    (read.Program (program.CrossedBounds 1 2))
 crossed_bounds = refl
 
 -- ---- the same files with one of relations
@@ -154,7 +155,8 @@ crossed_bounds = refl
 abbrev related_by : List ℕ → List File
 related_by text = file_of (codes "t.rel") text ∷ the_files
 
-pub at_most_its_right_side : program_in (related_by (codes "1 1 <")) (codes "t") true ≡ Ok (record the_program { relations = Less ∷ [] })
+pub at_most_its_right_side : program_in (related_by (codes "1 1 <")) (codes "t") true ≡ Ok
+    (record the_program { relations = Less ∷ [] })
 at_most_its_right_side = refl
 
 pub not_asked_for : program_in (related_by (codes "1 1 <")) (codes "t") false ≡ Ok the_program
@@ -167,8 +169,10 @@ pub no_such_relation : program_in (related_by (codes "1 1\n~")) (codes "t") true
 no_such_relation = refl
 
 -- relations come after the right sides and before the costs
-pub relations_before_costs : program_in (without (related_by (codes "1 1 ~")) (codes "t.cost")) (codes "t") true ≡ Err (read.Relations 4)
+pub relations_before_costs : program_in (without (related_by (codes "1 1 ~")) (codes "t.cost")) (codes "t") true ≡ Err
+    (read.Relations 4)
 relations_before_costs = refl
 
-pub right_sides_before_relations : program_in (without (related_by (codes "1 1 ~")) (codes "t.rhs")) (codes "t") true ≡ Err (read.Shelf file.Right)
+pub right_sides_before_relations : program_in (without (related_by (codes "1 1 ~")) (codes "t.rhs")) (codes "t") true ≡
+    Err (read.Shelf file.Right)
 right_sides_before_relations = refl

@@ -56,11 +56,21 @@ module _ (prefix : List ℕ) (asked : Bool) where
   costs_for link lower fs = costs_of fs prefix (length lower.rows) link.cols
 
   -- the rest of reading, after the costs, the relations, and so on up to the first file
-  abbrev pub with_costs : Matrix → Matrix → Matrix → Matrix → Matrix → List Relation → List Cost → List File → Result Program ReadFault
+  abbrev pub with_costs : Matrix → Matrix → Matrix → Matrix → Matrix → List Relation → List Cost → List File
+      → Result Program ReadFault
   with_costs link brick lower upper right relations costs fs =
-      as_program relations (record { link = link; brick = brick; lower = lower; upper = upper; right = right; costs = costs })
+      as_program relations (record {
+        link = link;
+        brick = brick;
+        lower = lower;
+        upper = upper;
+        right = right;
+        costs =
+            costs;
+      })
 
-  abbrev pub with_relations : Matrix → Matrix → Matrix → Matrix → Matrix → List Relation → List File → Result Program ReadFault
+  abbrev pub with_relations : Matrix → Matrix → Matrix → Matrix → Matrix → List Relation → List File
+      → Result Program ReadFault
   with_relations link brick lower upper right relations fs =
       and_then (costs_for link lower fs) (λ costs. with_costs link brick lower upper right relations costs fs)
 
@@ -96,10 +106,15 @@ module _ (before now : Folder) (prefix : List ℕ) (asked : Bool) (f : ReadFault
   Gives found a = ForTold before.files (λ fs. found fs ≡ Ok a)
 
   module _ (link : Matrix) (link_read : Gives (link_of prefix asked) link) where
-    past_link : (kind : FileKind) → Differ kind file.Link → IsOfFile kind f → Of (with_link prefix asked link) → OfProgram
+    past_link : (kind : FileKind) → Differ kind file.Link → IsOfFile kind f → Of (with_link prefix asked link)
+        → OfProgram
     past_link kind differ same cause =
         cause_rest (link_of prefix asked) (with_link prefix asked) before now prefix kind link
-        (record { told = link_read; others = λ fs. matrix_of_others fs prefix file.Link (shaped 0 16 1 32 (2 ^ 31 - 1)) kind differ }) f same cause
+        (record {
+          told = link_read;
+          others = λ fs. matrix_of_others fs prefix file.Link (shaped 0 16 1 32 (2 ^ 31 - 1))
+              kind differ;
+        }) f same cause
 
     pub brick_refused : IsOfFile file.Brick f → Of (brick_of prefix asked link) → OfProgram
     brick_refused same cause =
@@ -107,11 +122,16 @@ module _ (before now : Folder) (prefix : List ℕ) (asked : Bool) (f : ReadFault
         (cause_first (brick_of prefix asked link) (with_brick prefix asked link) before now prefix f cause)
 
     module _ (brick : Matrix) (brick_read : Gives (brick_of prefix asked link) brick) where
-      past_brick : (kind : FileKind) → Differ kind file.Link → Differ kind file.Brick → IsOfFile kind f → Of (with_brick prefix asked link brick) → OfProgram
+      past_brick : (kind : FileKind) → Differ kind file.Link → Differ kind file.Brick → IsOfFile kind f
+          → Of (with_brick prefix asked link brick) → OfProgram
       past_brick kind link_differs differ same cause =
           past_link kind link_differs same
           (cause_rest (brick_of prefix asked link) (with_brick prefix asked link) before now prefix kind brick
-          (record { told = brick_read; others = λ fs. matrix_of_others fs prefix file.Brick (shaped 0 16 link.cols link.cols (2 ^ 31 - 1)) kind differ }) f same cause)
+          (record {
+            told = brick_read;
+            others = λ fs. matrix_of_others fs prefix file.Brick
+                (shaped 0 16 link.cols link.cols (2 ^ 31 - 1)) kind differ;
+          }) f same cause)
 
       pub lower_refused : IsOfFile file.Lower f → Of (lower_of prefix asked link) → OfProgram
       lower_refused same cause =
@@ -119,69 +139,120 @@ module _ (before now : Folder) (prefix : List ℕ) (asked : Bool) (f : ReadFault
           (cause_first (lower_of prefix asked link) (with_lower prefix asked link brick) before now prefix f cause)
 
       module _ (lower : Matrix) (lower_read : Gives (lower_of prefix asked link) lower) where
-        past_lower : (kind : FileKind) → Differ kind file.Link → Differ kind file.Brick → Differ kind file.Lower → IsOfFile kind f → Of (with_lower prefix asked link brick lower) → OfProgram
+        past_lower : (kind : FileKind) → Differ kind file.Link → Differ kind file.Brick → Differ kind file.Lower
+            → IsOfFile kind f → Of (with_lower prefix asked link brick lower) → OfProgram
         past_lower kind link_differs brick_differs differ same cause =
             past_brick kind link_differs brick_differs same
             (cause_rest (lower_of prefix asked link) (with_lower prefix asked link brick) before now prefix kind lower
-            (record { told = lower_read; others = λ fs. matrix_of_others fs prefix file.Lower (shaped 1 10000 link.cols link.cols (2 ^ 62)) kind differ }) f same cause)
+            (record {
+              told = lower_read;
+              others = λ fs. matrix_of_others fs prefix file.Lower
+                  (shaped 1 10000 link.cols link.cols (2 ^ 62)) kind differ;
+            }) f same cause)
 
         pub upper_refused : IsOfFile file.Upper f → Of (upper_of prefix asked link lower) → OfProgram
         upper_refused same cause =
             past_lower file.Upper refl refl refl same
-            (cause_first (upper_of prefix asked link lower) (with_upper prefix asked link brick lower) before now prefix f cause)
+            (cause_first (upper_of prefix asked link lower) (with_upper prefix asked link brick lower) before now prefix
+            f cause)
 
         module _ (upper : Matrix) (upper_read : Gives (upper_of prefix asked link lower) upper) where
-          past_upper : (kind : FileKind) → Differ kind file.Link → Differ kind file.Brick → Differ kind file.Lower → Differ kind file.Upper → IsOfFile kind f → Of (with_upper prefix asked link brick lower upper) → OfProgram
+          past_upper : (kind : FileKind) → Differ kind file.Link → Differ kind file.Brick → Differ kind file.Lower
+              → Differ kind file.Upper → IsOfFile kind f → Of (with_upper prefix asked link brick lower upper)
+              → OfProgram
           past_upper kind link_differs brick_differs lower_differs differ same cause =
               past_lower kind link_differs brick_differs lower_differs same
-              (cause_rest (upper_of prefix asked link lower) (with_upper prefix asked link brick lower) before now prefix kind upper
-              (record { told = upper_read; others = λ fs. matrix_of_others fs prefix file.Upper (exactly (length lower.rows) link.cols) kind differ }) f same cause)
+              (cause_rest (upper_of prefix asked link lower) (with_upper prefix asked link brick lower) before now
+              prefix kind upper
+              (record {
+                told = upper_read;
+                others = λ fs. matrix_of_others fs prefix file.Upper
+                    (exactly (length lower.rows) link.cols) kind differ;
+              }) f same cause)
 
           pub right_refused : IsOfFile file.Right f → Of (right_of prefix asked link brick lower) → OfProgram
           right_refused same cause =
               past_upper file.Right refl refl refl refl same
-              (cause_first (right_of prefix asked link brick lower) (with_right prefix asked link brick lower upper) before now prefix f cause)
+              (cause_first (right_of prefix asked link brick lower) (with_right prefix asked link brick lower upper)
+              before now prefix f cause)
 
           module _ (right : Matrix) (right_read : Gives (right_of prefix asked link brick lower) right) where
-            past_right : (kind : FileKind) → Differ kind file.Link → Differ kind file.Brick → Differ kind file.Lower → Differ kind file.Upper → Differ kind file.Right → IsOfFile kind f → Of (with_right prefix asked link brick lower upper right) → OfProgram
+            past_right : (kind : FileKind) → Differ kind file.Link → Differ kind file.Brick → Differ kind file.Lower
+                → Differ kind file.Upper → Differ kind file.Right → IsOfFile kind f
+                → Of (with_right prefix asked link brick lower upper right) → OfProgram
             past_right kind link_differs brick_differs lower_differs upper_differs differ same cause =
                 past_upper kind link_differs brick_differs lower_differs upper_differs same
-                (cause_rest (right_of prefix asked link brick lower) (with_right prefix asked link brick lower upper) before now prefix kind right
-                (record { told = right_read; others = λ fs. matrix_of_others fs prefix file.Right (exactly 1 (length link.rows + length lower.rows * length brick.rows)) kind differ }) f same cause)
+                (cause_rest (right_of prefix asked link brick lower) (with_right prefix asked link brick lower upper)
+                before now prefix kind right
+                (record {
+                  told = right_read;
+                  others = λ fs. matrix_of_others fs prefix file.Right
+                      (exactly 1 (length link.rows + length lower.rows * length brick.rows)) kind differ;
+                }) f same cause)
 
             pub relations_refused : IsOfFile file.Relations f → Of (relations_for prefix asked link) → OfProgram
             relations_refused same cause =
                 past_right file.Relations refl refl refl refl refl same
-                (cause_first (relations_for prefix asked link) (with_relations prefix asked link brick lower upper right) before now prefix f cause)
+                (cause_first (relations_for prefix asked link)
+                (with_relations prefix asked link brick lower upper right) before now prefix f cause)
 
-            module _ (relations : List Relation) (relations_read : Gives (relations_for prefix asked link) relations) where
-              past_relations : (kind : FileKind) → Differ kind file.Link → Differ kind file.Brick → Differ kind file.Lower → Differ kind file.Upper → Differ kind file.Right → Differ kind file.Relations → IsOfFile kind f → Of (with_relations prefix asked link brick lower upper right relations) → OfProgram
-              past_relations kind link_differs brick_differs lower_differs upper_differs right_differs differ same cause =
-                  past_right kind link_differs brick_differs lower_differs upper_differs right_differs same
-                  (cause_rest (relations_for prefix asked link) (with_relations prefix asked link brick lower upper right) before now prefix kind relations
-                  (record { told = relations_read; others = λ fs. relations_of_others fs prefix kind asked (length link.rows) differ }) f same cause)
+            module _ (relations : List Relation) (relations_read : Gives (relations_for prefix asked link) relations)
+              where
+                past_relations : (kind : FileKind) → Differ kind file.Link → Differ kind file.Brick
+                    → Differ kind file.Lower → Differ kind file.Upper → Differ kind file.Right
+                    → Differ kind file.Relations → IsOfFile kind f
+                    → Of (with_relations prefix asked link brick lower upper right relations) → OfProgram
+                past_relations kind link_differs brick_differs lower_differs upper_differs right_differs differ same cause
+                    =
+                    past_right kind link_differs brick_differs lower_differs upper_differs right_differs same
+                    (cause_rest (relations_for prefix asked link)
+                    (with_relations prefix asked link brick lower upper right) before now prefix kind relations
+                    (record {
+                      told = relations_read;
+                      others =
+                          λ fs. relations_of_others fs prefix kind asked (length link.rows) differ;
+                    }) f same cause)
 
-              pub cost_file_refused : IsOfFile file.Costs f → Of (costs_for prefix asked link lower) → OfProgram
-              cost_file_refused same cause =
-                  past_relations file.Costs refl refl refl refl refl refl same
-                  (cause_first (costs_for prefix asked link lower) (with_costs prefix asked link brick lower upper right relations) before now prefix f cause)
+                pub cost_file_refused : IsOfFile file.Costs f → Of (costs_for prefix asked link lower) → OfProgram
+                cost_file_refused same cause =
+                    past_relations file.Costs refl refl refl refl refl refl same
+                    (cause_first (costs_for prefix asked link lower)
+                    (with_costs prefix asked link brick lower upper right relations) before now prefix f cause)
 
-              -- a fault of the program as a whole is of no file, so not of this one either
-              pub whole_refused : (costs : List Cost) → Gives (costs_for prefix asked link lower) costs → IsOfFile file.Plain f → Of (with_costs prefix asked link brick lower upper right relations costs) → OfProgram
-              whole_refused costs costs_read same cause =
-                  past_relations file.Plain refl refl refl refl refl refl same
-                  (cause_rest (costs_for prefix asked link lower) (with_costs prefix asked link brick lower upper right relations) before now prefix file.Plain costs
-                  (record { told = costs_read; others = λ fs. costs_of_others fs prefix file.Plain (length lower.rows) link.cols refl }) f same cause)
+                -- a fault of the program as a whole is of no file, so not of this one either
+                pub whole_refused : (costs : List Cost) → Gives (costs_for prefix asked link lower) costs
+                    → IsOfFile file.Plain f → Of (with_costs prefix asked link brick lower upper right relations costs)
+                    → OfProgram
+                whole_refused costs costs_read same cause =
+                    past_relations file.Plain refl refl refl refl refl refl same
+                    (cause_rest (costs_for prefix asked link lower)
+                    (with_costs prefix asked link brick lower upper right relations) before now prefix file.Plain
+                    costs
+                    (record {
+                      told = costs_read;
+                      others =
+                          λ fs. costs_of_others fs prefix file.Plain (length lower.rows) link.cols refl;
+                    }) f same cause)
 
 -- what each file gives makes the program
 pub program_read : (files : Option (List File)) (prefix : List ℕ) (asked : Bool) (link brick lower upper right : Matrix)
     (relations : List Relation) (costs : List Cost) (p : Program)
-    → ForTold files (λ fs. link_of prefix asked fs ≡ Ok link) → ForTold files (λ fs. brick_of prefix asked link fs ≡ Ok brick)
-    → ForTold files (λ fs. lower_of prefix asked link fs ≡ Ok lower) → ForTold files (λ fs. upper_of prefix asked link lower fs ≡ Ok upper)
+    → ForTold files (λ fs. link_of prefix asked fs ≡ Ok link)
+    → ForTold files (λ fs. brick_of prefix asked link fs ≡ Ok brick)
+    → ForTold files (λ fs. lower_of prefix asked link fs ≡ Ok lower)
+    → ForTold files (λ fs. upper_of prefix asked link lower fs ≡ Ok upper)
     → ForTold files (λ fs. right_of prefix asked link brick lower fs ≡ Ok right)
     → ForTold files (λ fs. relations_for prefix asked link fs ≡ Ok relations)
     → ForTold files (λ fs. costs_for prefix asked link lower fs ≡ Ok costs)
-    → as_program relations (record { link = link; brick = brick; lower = lower; upper = upper; right = right; costs = costs }) ≡ Ok p
+    → as_program relations (record {
+      link = link;
+      brick = brick;
+      lower = lower;
+      upper = upper;
+      right = right;
+      costs =
+          costs;
+    }) ≡ Ok p
     → ForTold files (λ fs. program_in fs prefix asked ≡ Ok p)
 program_read None prefix asked link brick lower upper right relations costs p l b lo up r rs cs made = tt
 program_read (Some fs) prefix asked link brick lower upper right relations costs p l b lo up r rs cs made =
@@ -261,7 +332,8 @@ pub accepted_whole : (relations : List Relation) (p : PartsValue) → program_re
 accepted_whole relations p is = rw (is, as_program) refl
 
 -- which is one with each list of relations
-pub related_is_program : (relations : List Relation) (p : Program) → length relations ≡ length p.link.rows → IsProgram p →
+pub related_is_program : (relations : List Relation) (p : Program) → length relations ≡ length p.link.rows
+    → IsProgram p →
     IsProgram (related relations p)
 related_is_program relations p many is = record {
   link_shape = is.link_shape;
@@ -279,8 +351,10 @@ module _ (before now : Folder) (prefix : List ℕ) (relations : List Relation) (
   program_refused (program.Shape kind) cause = absurd (cc)
   program_refused (program.CrossedBounds i j) cause =
       (tt, stops_whole before.files relations (parts_value parts) (Crossed i j) cause.1)
-  program_refused (program.Cost i j f) cause = (tt, stops_whole before.files relations (parts_value parts) (CostAt i j f) cause.1)
-  program_refused program.CostSumTooLarge cause = (tt, stops_whole before.files relations (parts_value parts) CostSum cause.1)
+  program_refused (program.Cost i j f) cause =
+      (tt, stops_whole before.files relations (parts_value parts) (CostAt i j f) cause.1)
+  program_refused program.CostSumTooLarge cause =
+      (tt, stops_whole before.files relations (parts_value parts) CostSum cause.1)
   program_refused program.Memory cause = tt
 
 -- and of no file

@@ -25,7 +25,8 @@ ReachesFile found prefix kind files = found (without files (prefix ++ suffix_of 
 -- at any time
 abbrev pub IsReadCause : {A : Type 0} → (List File → Result A ReadFault) → Folder → Folder → List ℕ → ReadFault → Type 0
 IsReadCause found before now prefix (read.Shelf kind) =
-    IsMissing before.files (prefix ++ suffix_of kind) (ReadFailed before now) × ForTold before.files (ReachesFile found prefix kind)
+    IsMissing before.files (prefix ++ suffix_of kind) (ReadFailed before now)
+    × ForTold before.files (ReachesFile found prefix kind)
 IsReadCause found before now prefix read.Memory = Unit {0}
 IsReadCause found before now prefix f = IsOfContent f × ForTold before.files (λ fs. found fs ≡ Err f)
 

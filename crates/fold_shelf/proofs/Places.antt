@@ -48,7 +48,8 @@ file_named-alike (f ∷ front) xs ys name same =
 
 module _ (files : List File) (name : List ℕ) (at : ℕ) (place : IsPlace files name at) where
   split_there : (d : File) → files ≡ take at files ++ get_or files at d ∷ drop (suc at) files
-  split_there d = sym (take-append-drop at files) ∙ ap (λ rest. take at files ++ rest) (drop-cons files at d place.inside)
+  split_there d = sym (take-append-drop at files) ∙ ap (λ rest. take at files ++ rest)
+      (drop-cons files at d place.inside)
 
   -- the file at its place is the named one
   pub file_named-there : (d : File) → file_named files name ≡ Some (get_or files at d).bytes
@@ -74,7 +75,8 @@ module _ (files : List File) (name : List ℕ) (at : ℕ) (place : IsPlace files
             ∙ ap Some holds;
         others = λ other apart.
             ap (λ fs. file_named fs other) now
-            ∙ file_named-alike (take at files) _ _ other (skips f other apart same _ ∙ sym (skips (get_or files at f) other apart (place.named f) _))
+            ∙ file_named-alike (take at files) _ _ other
+            (skips f other apart same _ ∙ sym (skips (get_or files at f) other apart (place.named f) _))
             ∙ ap (λ fs. file_named fs other) (sym (split_there f));
       }
 
@@ -92,7 +94,8 @@ module _ (files : List File) (name : List ℕ) (at : ℕ) (place : IsPlace files
   )
 
 -- a new file changes none of another name
-pub FileHolds-push : (files : List File) (f : File) (name bytes : List ℕ) → Lacks files name → f.name ≡ name → f.bytes ≡ bytes →
+pub FileHolds-push : (files : List File) (f : File) (name bytes : List ℕ) → Lacks files name → f.name ≡ name
+    → f.bytes ≡ bytes →
     FileHolds name bytes files (files ++ f ∷ [])
 FileHolds-push files f name bytes none same holds = record {
   named = file_named-after files (f ∷ []) name none ∙ file_named-here f [] name same ∙ ap Some holds;

@@ -24,7 +24,8 @@ module _ (name bytes buffer : List ℕ) (n : ℕ) where
   abbrev GoesOn : List File → Type 0
   GoesOn files = ReadFrom files name (length bytes) buffer n
 
-  front_next : (files : List File) → IsFront name bytes files → GoesOn files → IsFront name (bytes ++ take n buffer) files
+  front_next : (files : List File) → IsFront name bytes files → GoesOn files
+      → IsFront name (bytes ++ take n buffer) files
   front_next files front read file there =
       let same : read.bytes ≡ file = cc (read.there) in
       let piece : take n buffer ≡ take n (drop (length bytes) file) =
@@ -39,7 +40,8 @@ module _ (name bytes buffer : List ℕ) (n : ℕ) where
 
   -- a read takes the front n bytes further
   pub front_more : (told : Option (List File)) → ForTold told (IsFront name bytes) →
-      ForTold told (λ files. ReadFrom files name (length bytes) buffer n) → ForTold told (IsFront name (bytes ++ take n buffer))
+      ForTold told (λ files. ReadFrom files name (length bytes) buffer n)
+      → ForTold told (IsFront name (bytes ++ take n buffer))
   front_more told = ForTold-both told _ _ _ front_next
 
   whole_at_end : (most : ℕ) → n ≡ 0 → 0 < length buffer → length bytes ≤ most →

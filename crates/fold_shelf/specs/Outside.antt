@@ -91,7 +91,8 @@ pub record FileHolds (name bytes : List ℕ) (before now : List File) : Type 0 w
 
 -- the named file has gained these bytes at its end, and every other file is as before
 abbrev pub FileGains : List ℕ → List ℕ → List File → List File → Type 0
-FileGains name piece before now = (bytes : List ℕ) × (file_named before name ≡ Some bytes) × FileHolds name (bytes ++ piece) before now
+FileGains name piece before now = (bytes : List ℕ) × (file_named before name ≡ Some bytes)
+    × FileHolds name (bytes ++ piece) before now
 
 -- nothing happened, or the named file holds a first part of the bytes
 abbrev pub StoredPart : List ℕ → List ℕ → List File → List File → Type 0

@@ -13,6 +13,8 @@ returns-in_err-parse_costs-clause-refused g c =
     let parsed = subst (λ (bytes : List ℕ). IsCostFileFault (parsed_costs c.args.n c.args.t bytes) fault)
     c.deref.ensures.value c.in_err-parse_costs.ensures.parsed in
     of_error c.from_residual-in_err-parse_costs.result (costs_fault fault)
-    (IsReadCause (λ fs. costs_of fs c.args.prefix.now c.args.n c.args.t) (g.S.Shelf.seen c.args.shelf.now) (g.S.Shelf.seen c.read_bytes.new.shelf) c.args.prefix.now) c.from_residual-in_err-parse_costs.ensures.1
-    (costs_refused (g.S.Shelf.seen c.args.shelf.now) (g.S.Shelf.seen c.read_bytes.new.shelf) c.args.prefix.now (λ fs. bytes_of fs c.args.prefix.now Costs (2 ^ 26)) c.in_ok-bytes.bytes.items
+    (IsReadCause (λ fs. costs_of fs c.args.prefix.now c.args.n c.args.t) (g.S.Shelf.seen c.args.shelf.now)
+    (g.S.Shelf.seen c.read_bytes.new.shelf) c.args.prefix.now) c.from_residual-in_err-parse_costs.ensures.1
+    (costs_refused (g.S.Shelf.seen c.args.shelf.now) (g.S.Shelf.seen c.read_bytes.new.shelf) c.args.prefix.now
+    (λ fs. bytes_of fs c.args.prefix.now Costs (2 ^ 26)) c.in_ok-bytes.bytes.items
     c.in_ok-bytes.ensures.bytes (parsed_costs c.args.n c.args.t) as_costs (λ f. refl) fault parsed)

@@ -11,6 +11,8 @@ returns-in-Ok-clause-shape g c = parsed_admits c.args.shape.now c.deref.result.n
 pub returns-clause-refused : goal.returns-clause-refused
 returns-clause-refused g c =
     let parsed = parsed_matrix c.args.shape.now in
-    let is = subst (λ (bytes : List ℕ). IsMatFault (parsed bytes) c.in-Err.fault) c.deref.ensures.value c.in-Err.ensures in
-    rw c.of_form.ensures (form_refused (g.S.Shelf.seen c.args.shelf.now) (g.S.Shelf.seen c.read_bytes.new.shelf) c.args.prefix.now (λ fs. bytes_of fs c.args.prefix.now c.args.file (2 ^ 26))
+    let is = subst (λ (bytes : List ℕ). IsMatFault (parsed bytes) c.in-Err.fault) c.deref.ensures.value c.in-Err.ensures
+    in
+    rw c.of_form.ensures (form_refused (g.S.Shelf.seen c.args.shelf.now) (g.S.Shelf.seen c.read_bytes.new.shelf)
+    c.args.prefix.now (λ fs. bytes_of fs c.args.prefix.now c.args.file (2 ^ 26))
     c.in_ok-bytes.bytes.items c.in_ok-bytes.ensures.bytes c.args.file parsed c.in-Err.fault is)
