@@ -10,7 +10,7 @@ use Rattle.lattice_laws.proofs.Conformal.{norm_none}
 use Rattle.lattice_laws.proofs.Products.{length-rows}
 use Rattle.fold_theory.specs.declared.Phase.TheVariants.{Counted}
 use Rattle.fold_theory.specs.Programs.{Program, Brick, Bricks, IsBrick, IsProgram, IsWithin, AreWithin, brick_residual}
-use Rattle.lattice_laws.proofs.Agreement.{same_vector}
+use Rattle.lattice_laws.proofs.Sums.{same_vector}
 use Rattle.run_theory.specs.BrickRuns.{BrickMove, IsBrickRun}
 use Rattle.run_theory.specs.Outcomes.{AllSettle, FirstStuck}
 use Rattle.run_theory.specs.Starts.{IsStart}

@@ -12,11 +12,11 @@ use Rattle.fold_theory.specs.Programs.{Program}
 use Rattle.run_theory.specs.Links.{Bases, AreBases, generators, links_of, fold_complexity}
 use Rattle.run_theory.specs.BrickSums.{AreBrickSums}
 use Rattle.run_theory.specs.Folds.{IsSmallImage}
-use Rattle.piece_laws.proofs.Generators.{IsGenerator}
-use Rattle.piece_laws.proofs.Frames.{slack_generators}
+use Rattle.cover_laws.proofs.SlackBases.{slack_basis_complete}
+use Rattle.cover_laws.proofs.Kernels.{IsGenerator, complete_generators}
 use Rattle.brick_sums.proofs.SumLaws.{IsSignedSum-width}
 use Rattle.graver_complexity.proofs.MultipleLaws.{AreSums-many}
-use Rattle.graver_complexity.proofs.SizeLaws.{IsSignedSum-images}
+use Rattle.graver_complexity.proofs.SizeLaws.{IsSignedSum-entries, IsSignedSum-images}
 
 -- ---- generators
 
@@ -34,7 +34,7 @@ module _ (p : Program) (b : Bases) (bases : AreBases p b) where
   t = p.brick.cols
 
   each : All (IsGenerator p.brick) gens
-  each = All-from_recursion (IsGenerator p.brick) gens (slack_generators p.brick b.brick bases.brick)
+  each = All-from_recursion (IsGenerator p.brick) gens (complete_generators p.brick b.brick (slack_basis_complete p.brick b.brick bases.brick))
 
   even : All (λ e. length e ≡ t) gens
   even = All-weaker (IsGenerator p.brick) (λ e. length e ≡ t) (λ e g. g.size) gens each
@@ -78,3 +78,15 @@ module _ (p : Program) (b : Bases) (bases : AreBases p b) where
             let low : s.level ≤ 9999 = few_levels gens g sums s sized are few is.0 is.1 in
             All-weaker (λ a. unsigned_abs a ≤ s.level * (2 ^ 31 - 1)) (λ a. unsigned_abs a ≤ 2 ^ 50) (λ a most. omega (arith, low, most)) (product p.link s.vector)
             (IsSignedSum-images t s.level p.link gens s.vector even narrow is.1.reached)
+
+    -- and so are its entries
+    pub sums_low : All IsNarrow gens → length sums ≤ 20000 → All (All (λ a. unsigned_abs a ≤ 2 ^ 47)) (vectors sums)
+    sums_low narrow few =
+        All-map (All (λ a. unsigned_abs a ≤ 2 ^ 47)) (λ (s : Sum). s.vector) sums
+        (All-weaker IsSumOf (λ (s : Sum). All (λ a. unsigned_abs a ≤ 2 ^ 47) s.vector) small sums are.sound)
+      where
+        small : (s : Sum) → IsSumOf s → All (λ a. unsigned_abs a ≤ 2 ^ 47) s.vector
+        small s is =
+            let low : s.level ≤ 9999 = few_levels gens g sums s sized are few is.0 is.1 in
+            All-weaker (λ a. unsigned_abs a ≤ s.level * (2 ^ 31 - 1)) (λ a. unsigned_abs a ≤ 2 ^ 47) (λ a most. omega (arith, low, most)) s.vector
+            (IsSignedSum-entries t s.level gens s.vector narrow is.1.reached)
