@@ -2,3 +2,5 @@ mod KnownValues
 pub mod StepLaws
 pub mod ShapeLaws
 pub mod YesLaws
+pub mod PointLaws
+pub mod FoldLaws

@@ -31,3 +31,8 @@ has_shape-even rows cols m even = by (nat_eq (length m.rows) rows) (nat_eq m.col
         (recursion_from_All (λ row. length row ≡ m.cols) m.rows even)
     by true false same = refl
     by false b same = refl
+
+-- both tests hold
+pub and_true : (a b : Bool) → (a && b) ≡ true → (a ≡ true) × (b ≡ true)
+and_true true b h = (refl, h)
+and_true false b h = (h, absurd (cc))

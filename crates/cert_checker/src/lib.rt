@@ -4,6 +4,9 @@
 
 mod answer;
 mod checking;
+mod folds;
+mod points;
+mod shapes;
 mod steps;
 
 pub use answer::Check;

@@ -1,6 +1,8 @@
 //! A program of two bricks with two columns each, worked by hand: all bounds are 0 to 4, and the columns of a brick
 //! are to add up to 9 in the first and to 4 in the second. The first can reach 8.
 
+mod folds;
+
 ghost use Rattle.std.specs.Prelude.{All, IfOk};
 ghost use Rattle.lattice_theory.specs.BasisLimits.{IsNarrow};
 ghost use Rattle.convex_costs.specs.Bounds.{AreBounded};

@@ -1,6 +1,6 @@
 use Rattle.std.proofs.Common.{◌&&◌, ◌∙◌, sym, ap, nat_eq}
 use Rattle.cert_checker.proofs.ShapeLaws.{has_shape-even, nat_eq_same}
-use Rattle.cert_checker.proofs.checking.has_shape.Goals as goal
+use Rattle.cert_checker.proofs.shapes.has_shape.Goals as goal
 
 pub returns-then-rows : goal.returns-then-rows
 returns-then-rows c =

@@ -1,0 +1,68 @@
+use Rattle.std.proofs.Common.{◌≡◌, Some, length, nat_eq, nat_le, true, false, All, rules, sym, ap, ◌∙◌, subst}
+use Rattle.lattice_theory.specs.Lists.{all_zip}
+use Rattle.lattice_theory.specs.BasisLimits.{IsNarrow}
+use Rattle.lattice_theory.specs.Lattices.{is_complete_for, kernel}
+use Rattle.fold_theory.specs.Programs.{AreWithin, is_within, brick_residual}
+use Rattle.run_theory.specs.Links.{link_matrix, complexity}
+use Rattle.run_theory.specs.Checker.{listed_links, listed_generators}
+use Rattle.certificate.specs.Readable.{IsSumRow}
+use Rattle.listed_links.specs.Images.{IsLinkMatrix}
+use Rattle.listed_links.proofs.ImageLaws.{wide-incomplete}
+use Rattle.cert_checker.specs.Folds.{IsPointOf, meets_links}
+use Rattle.cert_checker.proofs.PointLaws.{all-within}
+use Rattle.cert_checker.proofs.FoldLaws.{third-breaks, fourth-breaks, fifth-breaks, none-breaks, last-passes, brick-test, links-test, light-test, closed-test, all-modest, cols-fit, all-fit, not-within, misses-rows, misses-links, held-test, first-breaks, list-breaks, potentials-break, last-decides}
+use Rattle.cert_checker.proofs.folds.broken_list.Goals as goal
+
+pub returns-in_default : goal.returns-in_default
+returns-in_default c =
+    let two = brick-test c.args.program.now c.args.c.now c.brick.result.now c.bricks.result.now c.in_ok-is_complete.field-0 true c.brick.ensures.brick c.bricks.ensures.bricks c.in_ok-is_complete.ensures c.if-not-branch.false in
+    let wide = subst (IsLinkMatrix c.link.result.now c.args.generators.now.rows) c.in_default.is c.in_ok-matrix.ensures in
+    let three : is_complete_for (listed_links c.args.program.now c.args.c.now) c.args.fold.now.links.rows ≡ false =
+    sym (λ k. is_complete_for (link_matrix (c.link.ensures.link k) (c.requires.generators k)) c.args.fold.now.links.rows)
+    ∙ wide-incomplete c.link.result.now c.args.generators.now.rows c.args.fold.now.links.rows c.links-links.ensures.narrow wide in
+    third-breaks _ _ _ _ two three
+
+pub returns-then-not-branch-2 : goal.returns-then-not-branch-2
+returns-then-not-branch-2 c =
+    let two = brick-test c.args.program.now c.args.c.now c.brick.result.now c.bricks.result.now c.in_ok-is_complete.field-0 true c.brick.ensures.brick c.bricks.ensures.bricks c.in_ok-is_complete.ensures c.if-not-branch.false in
+    let matrix : c.in-Some.matrix ≡ listed_links c.args.program.now c.args.c.now =
+    (subst (IsLinkMatrix c.link.result.now c.args.generators.now.rows) c.in-Some.is c.in_ok-matrix.ensures).0
+    ∙ (λ k. link_matrix (c.link.ensures.link k) (c.requires.generators k)) in
+    let three = links-test c.args.program.now c.args.c.now c.args.fold.now c.in-Some.matrix c.links-links.result.now c.in_ok-is_complete-2.field-0 false matrix c.links-links.ensures.links c.in_ok-is_complete-2.ensures c.if-not-branch-2.true in
+    third-breaks _ _ _ _ two three
+
+pub returns-then-not-is_bound : goal.returns-then-not-is_bound
+returns-then-not-is_bound c =
+    let two = brick-test c.args.program.now c.args.c.now c.brick.result.now c.bricks.result.now c.in_ok-is_complete.field-0 true c.brick.ensures.brick c.bricks.ensures.bricks c.in_ok-is_complete.ensures c.if-not-branch.false in
+    let matrix : c.in-Some.matrix ≡ listed_links c.args.program.now c.args.c.now =
+    (subst (IsLinkMatrix c.link.result.now c.args.generators.now.rows) c.in-Some.is c.in_ok-matrix.ensures).0
+    ∙ (λ k. link_matrix (c.link.ensures.link k) (c.requires.generators k)) in
+    let three = links-test c.args.program.now c.args.c.now c.args.fold.now c.in-Some.matrix c.links-links.result.now c.in_ok-is_complete-2.field-0 true matrix c.links-links.ensures.links c.in_ok-is_complete-2.ensures c.if-not-branch-2.false in
+    let four = light-test c.args.program.now c.args.phase c.args.c.now c.args.fold.now c.relations.result.now c.in-Some.matrix c.links-links.result.now c.bound.result c.is_bound.result false c.relations.ensures.relations matrix c.links-links.ensures.links c.bound.ensures.bound c.is_bound.ensures c.if-not-is_bound.true in
+    fourth-breaks _ _ _ _ two three four
+
+pub are_closed-requires-clause-modest : goal.are_closed-requires-clause-modest
+are_closed-requires-clause-modest c =
+    all-modest c.sums.result.now.rows (subst (λ m. All IsSumRow m.rows) (sym c.sums.ensures.sums) c.sums.ensures.entries)
+
+pub returns-then-not-branch-3 : goal.returns-then-not-branch-3
+returns-then-not-branch-3 c =
+    let two = brick-test c.args.program.now c.args.c.now c.brick.result.now c.bricks.result.now c.in_ok-is_complete.field-0 true c.brick.ensures.brick c.bricks.ensures.bricks c.in_ok-is_complete.ensures c.if-not-branch.false in
+    let matrix : c.in-Some.matrix ≡ listed_links c.args.program.now c.args.c.now =
+    (subst (IsLinkMatrix c.link.result.now c.args.generators.now.rows) c.in-Some.is c.in_ok-matrix.ensures).0
+    ∙ (λ k. link_matrix (c.link.ensures.link k) (c.requires.generators k)) in
+    let three = links-test c.args.program.now c.args.c.now c.args.fold.now c.in-Some.matrix c.links-links.result.now c.in_ok-is_complete-2.field-0 true matrix c.links-links.ensures.links c.in_ok-is_complete-2.ensures c.if-not-branch-2.false in
+    let four = light-test c.args.program.now c.args.phase c.args.c.now c.args.fold.now c.relations.result.now c.in-Some.matrix c.links-links.result.now c.bound.result c.is_bound.result true c.relations.ensures.relations matrix c.links-links.ensures.links c.bound.ensures.bound c.is_bound.ensures c.if-not-is_bound.false in
+    let five = closed-test c.args.program.now c.args.c.now c.args.fold.now c.args.generators.now.cols c.args.generators.now.rows c.bound-2.result c.sums.result.now c.in_ok-are_closed.field-0 false (c.requires.cols ∙ sym c.t-cols.ensures.cols ∙ c.t-cols.ensures.brick_cols) c.requires.generators c.bound-2.ensures.bound c.sums.ensures.sums c.in_ok-are_closed.ensures c.if-not-branch-3.true in
+    fifth-breaks _ _ _ _ two three four five
+
+pub returns : goal.returns
+returns c =
+    let two = brick-test c.args.program.now c.args.c.now c.brick.result.now c.bricks.result.now c.in_ok-is_complete.field-0 true c.brick.ensures.brick c.bricks.ensures.bricks c.in_ok-is_complete.ensures c.if-not-branch.false in
+    let matrix : c.in-Some.matrix ≡ listed_links c.args.program.now c.args.c.now =
+    (subst (IsLinkMatrix c.link.result.now c.args.generators.now.rows) c.in-Some.is c.in_ok-matrix.ensures).0
+    ∙ (λ k. link_matrix (c.link.ensures.link k) (c.requires.generators k)) in
+    let three = links-test c.args.program.now c.args.c.now c.args.fold.now c.in-Some.matrix c.links-links.result.now c.in_ok-is_complete-2.field-0 true matrix c.links-links.ensures.links c.in_ok-is_complete-2.ensures c.if-not-branch-2.false in
+    let four = light-test c.args.program.now c.args.phase c.args.c.now c.args.fold.now c.relations.result.now c.in-Some.matrix c.links-links.result.now c.bound.result c.is_bound.result true c.relations.ensures.relations matrix c.links-links.ensures.links c.bound.ensures.bound c.is_bound.ensures c.if-not-is_bound.false in
+    let five = closed-test c.args.program.now c.args.c.now c.args.fold.now c.args.generators.now.cols c.args.generators.now.rows c.bound-2.result c.sums.result.now c.in_ok-are_closed.field-0 true (c.requires.cols ∙ sym c.t-cols.ensures.cols ∙ c.t-cols.ensures.brick_cols) c.requires.generators c.bound-2.ensures.bound c.sums.ensures.sums c.in_ok-are_closed.ensures c.if-not-branch-3.false in
+    none-breaks _ _ _ _ two three four five

@@ -1,0 +1,128 @@
+use Rattle.std.proofs.Common.{◌≡◌, Some, length, nat_eq, nat_le, true, false, All, rules, sym, ap, ◌∙◌, subst}
+use Rattle.lattice_theory.specs.Lists.{all_zip}
+use Rattle.lattice_theory.specs.BasisLimits.{IsNarrow}
+use Rattle.lattice_theory.specs.Lattices.{is_complete_for, kernel}
+use Rattle.fold_theory.specs.Programs.{AreWithin, is_within, brick_residual}
+use Rattle.run_theory.specs.Links.{link_matrix, complexity}
+use Rattle.run_theory.specs.Checker.{listed_links, listed_generators}
+use Rattle.certificate.specs.Readable.{IsSumRow}
+use Rattle.listed_links.specs.Images.{IsLinkMatrix}
+use Rattle.listed_links.proofs.ImageLaws.{wide-incomplete}
+use Rattle.cert_checker.specs.Folds.{IsPointOf, meets_links}
+use Rattle.cert_checker.proofs.PointLaws.{all-within}
+use Rattle.cert_checker.proofs.FoldLaws.{third-breaks, fourth-breaks, fifth-breaks, none-breaks, last-passes, brick-test, links-test, light-test, closed-test, all-modest, cols-fit, all-fit, not-within, misses-rows, misses-links, held-test, first-breaks, list-breaks, potentials-break, last-decides}
+use Rattle.cert_checker.proofs.folds.check_fold.Goals as goal
+
+pub returns-then-not-are_within : goal.returns-then-not-are_within
+returns-then-not-are_within c =
+    let within : all_zip is_within c.args.program.now.bricks c.args.c.now.point.rows ≡ false =
+    sym (λ k. all_zip is_within c.args.program.now.bricks (c.point.ensures.point k).rows) ∙ sym c.are_within.ensures ∙ c.if-not-are_within.true in
+    record { answer = first-breaks c.args.program.now c.args.phase c.args.c.now c.args.fold.now c.requires.claim c.requires.fold (not-within c.args.program.now c.args.phase c.args.c.now c.args.fold.now within) }
+
+pub point_of-requires-clause-within : goal.point_of-requires-clause-within
+point_of-requires-clause-within c =
+    let within : all_zip is_within c.args.program.now.bricks c.args.c.now.point.rows ≡ true =
+    sym (λ k. all_zip is_within c.args.program.now.bricks (c.point.ensures.point k).rows) ∙ sym c.are_within.ensures ∙ c.if-not-are_within.false in
+    subst (λ m. AreWithin c.args.program.now.bricks m.rows) (sym c.point-2.ensures.point) (all-within c.args.program.now.bricks c.args.c.now.point.rows within)
+
+pub returns-then-not-meet_brick_rows : goal.returns-then-not-meet_brick_rows
+returns-then-not-meet_brick_rows c =
+    let rows : all_zip (λ b v. nat_eq (brick_residual c.args.program.now b v) 0) c.args.program.now.bricks c.args.c.now.point.rows ≡ false =
+    sym (λ k. all_zip (λ b v. nat_eq (brick_residual c.args.program.now b v) 0) c.args.program.now.bricks (c.point-3.ensures.point k).rows)
+    ∙ sym c.meet_brick_rows.ensures ∙ c.if-not-meet_brick_rows.true in
+    record { answer = first-breaks c.args.program.now c.args.phase c.args.c.now c.args.fold.now c.requires.claim c.requires.fold (misses-rows c.args.program.now c.args.phase c.args.c.now c.args.fold.now rows) }
+
+pub returns-then-not-meets_links : goal.returns-then-not-meets_links
+returns-then-not-meets_links c =
+    let is : c.in-Some.point ≡ c.args.c.now.point.rows =
+    subst (IsPointOf c.point-2.result.now.rows) c.in-Some.is c.in_ok-point.ensures.rows ∙ ap (λ m. m.rows) c.point-2.ensures.point in
+    let links : meets_links c.args.program.now c.args.phase c.args.c.now.point.rows ≡ false =
+    sym (λ k. meets_links c.args.program.now c.args.phase (is k)) ∙ sym c.meets_links.ensures ∙ c.if-not-meets_links.true in
+    record { answer = first-breaks c.args.program.now c.args.phase c.args.c.now c.args.fold.now c.requires.claim c.requires.fold (misses-links c.args.program.now c.args.phase c.args.c.now c.args.fold.now links) }
+
+pub returns-in-Some-2 : goal.returns-in-Some-2
+returns-in-Some-2 c =
+    let within : all_zip is_within c.args.program.now.bricks c.args.c.now.point.rows ≡ true =
+    sym (λ k. all_zip is_within c.args.program.now.bricks (c.point.ensures.point k).rows) ∙ sym c.are_within.ensures ∙ c.if-not-are_within.false in
+    let many : c.rows.result ≡ length (listed_generators c.args.program.now c.args.c.now) =
+    c.rows.ensures ∙ ap length c.in_ok-generators.ensures.rows
+    ∙ (λ k. length (kernel (c.t.ensures.brick_cols k) (c.bricks.ensures.bricks k).rows)) in
+    let bricks = sym c.brick_parts_fit.ensures ∙ c.if-not-brick_parts_fit.false in
+    let fold = sym c.fold_parts_fit.ensures.fit ∙ c.if-not-fold_parts_fit.false in
+    let is : c.in-Some.point ≡ c.args.c.now.point.rows =
+    subst (IsPointOf c.point-2.result.now.rows) c.in-Some.is c.in_ok-point.ensures.rows ∙ ap (λ m. m.rows) c.point-2.ensures.point in
+    let rows : all_zip (λ b v. nat_eq (brick_residual c.args.program.now b v) 0) c.args.program.now.bricks c.args.c.now.point.rows ≡ true =
+    sym (λ k. all_zip (λ b v. nat_eq (brick_residual c.args.program.now b v) 0) c.args.program.now.bricks (c.point-3.ensures.point k).rows)
+    ∙ sym c.meet_brick_rows.ensures ∙ c.if-not-meet_brick_rows.false in
+    let links : meets_links c.args.program.now c.args.phase c.args.c.now.point.rows ≡ true =
+    sym (λ k. meets_links c.args.program.now c.args.phase (is k)) ∙ sym c.meets_links.ensures ∙ c.if-not-meets_links.false in
+    let fits = all-fit c.args.program.now c.args.phase c.args.c.now c.args.fold.now c.rows.result many c.fold_parts_fit.ensures.even bricks fold within rows links in
+    record { answer = list-breaks c.args.program.now c.args.phase c.args.c.now c.args.fold.now c.in-Some-2.rule c.requires.claim c.requires.fold fits (sym c.in-Some-2.is ∙ c.in_ok-rule.ensures) }
+
+pub potentials_hold-requires-clause-within : goal.potentials_hold-requires-clause-within
+potentials_hold-requires-clause-within c =
+    let within : all_zip is_within c.args.program.now.bricks c.args.c.now.point.rows ≡ true =
+    sym (λ k. all_zip is_within c.args.program.now.bricks (c.point.ensures.point k).rows) ∙ sym c.are_within.ensures ∙ c.if-not-are_within.false in
+    let is : c.in-Some.point ≡ c.args.c.now.point.rows =
+    subst (IsPointOf c.point-2.result.now.rows) c.in-Some.is c.in_ok-point.ensures.rows ∙ ap (λ m. m.rows) c.point-2.ensures.point in
+    subst (AreWithin c.args.program.now.bricks) (sym is) (all-within c.args.program.now.bricks c.args.c.now.point.rows within)
+
+pub potentials_hold-requires-clause-modest : goal.potentials_hold-requires-clause-modest
+potentials_hold-requires-clause-modest c =
+    all-modest c.sums.result.now.rows (subst (λ m. All IsSumRow m.rows) (sym c.sums.ensures.sums) c.sums.ensures.entries)
+
+pub potentials_hold-requires-clause-cols : goal.potentials_hold-requires-clause-cols
+potentials_hold-requires-clause-cols c =
+    let fold = sym c.fold_parts_fit.ensures.fit ∙ c.if-not-fold_parts_fit.false in
+    ap (λ t. t.cols) c.potentials.ensures.potentials ∙ cols-fit c.args.program.now c.args.fold.now c.rows.result fold
+    ∙ sym (λ k. length (c.sums.ensures.sums k).rows)
+
+pub returns-then-not-branch : goal.returns-then-not-branch
+returns-then-not-branch c =
+    let within : all_zip is_within c.args.program.now.bricks c.args.c.now.point.rows ≡ true =
+    sym (λ k. all_zip is_within c.args.program.now.bricks (c.point.ensures.point k).rows) ∙ sym c.are_within.ensures ∙ c.if-not-are_within.false in
+    let many : c.rows.result ≡ length (listed_generators c.args.program.now c.args.c.now) =
+    c.rows.ensures ∙ ap length c.in_ok-generators.ensures.rows
+    ∙ (λ k. length (kernel (c.t.ensures.brick_cols k) (c.bricks.ensures.bricks k).rows)) in
+    let bricks = sym c.brick_parts_fit.ensures ∙ c.if-not-brick_parts_fit.false in
+    let fold = sym c.fold_parts_fit.ensures.fit ∙ c.if-not-fold_parts_fit.false in
+    let is : c.in-Some.point ≡ c.args.c.now.point.rows =
+    subst (IsPointOf c.point-2.result.now.rows) c.in-Some.is c.in_ok-point.ensures.rows ∙ ap (λ m. m.rows) c.point-2.ensures.point in
+    let rows : all_zip (λ b v. nat_eq (brick_residual c.args.program.now b v) 0) c.args.program.now.bricks c.args.c.now.point.rows ≡ true =
+    sym (λ k. all_zip (λ b v. nat_eq (brick_residual c.args.program.now b v) 0) c.args.program.now.bricks (c.point-3.ensures.point k).rows)
+    ∙ sym c.meet_brick_rows.ensures ∙ c.if-not-meet_brick_rows.false in
+    let links : meets_links c.args.program.now c.args.phase c.args.c.now.point.rows ≡ true =
+    sym (λ k. meets_links c.args.program.now c.args.phase (is k)) ∙ sym c.meets_links.ensures ∙ c.if-not-meets_links.false in
+    let fits = all-fit c.args.program.now c.args.phase c.args.c.now c.args.fold.now c.rows.result many c.fold_parts_fit.ensures.even bricks fold within rows links in
+    let none = sym c.in_default-2.is ∙ c.in_ok-rule.ensures in
+    let held = held-test c.args.program.now c.args.phase c.args.c.now c.args.fold.now c.in-Some.point c.sums.result.now c.potentials.result.now c.in_ok-potentials_hold.field-0 false is c.sums.ensures.sums c.potentials.ensures.potentials c.in_ok-potentials_hold.ensures c.if-not-branch.true in
+    record { answer = potentials-break c.args.program.now c.args.phase c.args.c.now c.args.fold.now c.requires.claim c.requires.fold fits none held }
+
+pub last_answer-requires-clause-within : goal.last_answer-requires-clause-within
+last_answer-requires-clause-within c =
+    let within : all_zip is_within c.args.program.now.bricks c.args.c.now.point.rows ≡ true =
+    sym (λ k. all_zip is_within c.args.program.now.bricks (c.point.ensures.point k).rows) ∙ sym c.are_within.ensures ∙ c.if-not-are_within.false in
+    let is : c.in-Some.point ≡ c.args.c.now.point.rows =
+    subst (IsPointOf c.point-2.result.now.rows) c.in-Some.is c.in_ok-point.ensures.rows ∙ ap (λ m. m.rows) c.point-2.ensures.point in
+    subst (AreWithin c.args.program.now.bricks) (sym is) (all-within c.args.program.now.bricks c.args.c.now.point.rows within)
+
+pub returns : goal.returns
+returns c =
+    let within : all_zip is_within c.args.program.now.bricks c.args.c.now.point.rows ≡ true =
+    sym (λ k. all_zip is_within c.args.program.now.bricks (c.point.ensures.point k).rows) ∙ sym c.are_within.ensures ∙ c.if-not-are_within.false in
+    let many : c.rows.result ≡ length (listed_generators c.args.program.now c.args.c.now) =
+    c.rows.ensures ∙ ap length c.in_ok-generators.ensures.rows
+    ∙ (λ k. length (kernel (c.t.ensures.brick_cols k) (c.bricks.ensures.bricks k).rows)) in
+    let bricks = sym c.brick_parts_fit.ensures ∙ c.if-not-brick_parts_fit.false in
+    let fold = sym c.fold_parts_fit.ensures.fit ∙ c.if-not-fold_parts_fit.false in
+    let is : c.in-Some.point ≡ c.args.c.now.point.rows =
+    subst (IsPointOf c.point-2.result.now.rows) c.in-Some.is c.in_ok-point.ensures.rows ∙ ap (λ m. m.rows) c.point-2.ensures.point in
+    let rows : all_zip (λ b v. nat_eq (brick_residual c.args.program.now b v) 0) c.args.program.now.bricks c.args.c.now.point.rows ≡ true =
+    sym (λ k. all_zip (λ b v. nat_eq (brick_residual c.args.program.now b v) 0) c.args.program.now.bricks (c.point-3.ensures.point k).rows)
+    ∙ sym c.meet_brick_rows.ensures ∙ c.if-not-meet_brick_rows.false in
+    let links : meets_links c.args.program.now c.args.phase c.args.c.now.point.rows ≡ true =
+    sym (λ k. meets_links c.args.program.now c.args.phase (is k)) ∙ sym c.meets_links.ensures ∙ c.if-not-meets_links.false in
+    let fits = all-fit c.args.program.now c.args.phase c.args.c.now c.args.fold.now c.rows.result many c.fold_parts_fit.ensures.even bricks fold within rows links in
+    let none = sym c.in_default-2.is ∙ c.in_ok-rule.ensures in
+    let held = held-test c.args.program.now c.args.phase c.args.c.now c.args.fold.now c.in-Some.point c.sums.result.now c.potentials.result.now c.in_ok-potentials_hold.field-0 true is c.sums.ensures.sums c.potentials.ensures.potentials c.in_ok-potentials_hold.ensures c.if-not-branch.false in
+    record { answer = c.last_answer.ensures ∙ last-decides c.args.program.now c.args.phase c.args.c.now c.args.fold.now c.in-Some.point c.requires.claim c.requires.fold fits none held is }
