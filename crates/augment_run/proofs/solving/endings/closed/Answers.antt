@@ -1,0 +1,12 @@
+use Rattle.phase_one.specs.Started.{lists}
+use Rattle.augment_run.proofs.SolveLaws.{begun_closed}
+use Rattle.augment_run.proofs.solving.endings.closed.Goals as goal
+
+pub run_phase-requires-clause-begun : goal.run_phase-requires-clause-begun
+run_phase-requires-clause-begun c = (c.requires.settled, begun_closed c.args.program.now c.args.plan.now (lists c.args.met.traces.items) c.args.met.counted c.args.met.point c.requires)
+
+pub run_phase-requires-clause-start : goal.run_phase-requires-clause-start
+run_phase-requires-clause-start c = c.requires.start
+
+pub optimal-requires : goal.optimal-requires
+optimal-requires c = record { point = c.args.met.point; met = c.requires; ended = c.in_ok-last.ensures.ended }
