@@ -1,5 +1,5 @@
 -- The greatest absolute entry, one after the other.
-use Rattle.std.proofs.Common.{◌≡◌, ℕ, zero, suc, ◌+◌, ◌^◌, ◌≤◌, max, ℤ, pos, unsigned_abs, List, [], ◌∷◌, ◌++◌, length, map, take, drop, get_or, refl, ap, arith, sym, ◌∙◌, Some, slice_get, All}
+use Rattle.std.proofs.Common.{◌≡◌, ℕ, zero, suc, ◌+◌, ◌^◌, ◌≤◌, max, ℤ, pos, unsigned_abs, List, [], ◌∷◌, ◌++◌, length, map, drop, get_or, refl, ap, arith, ◌∙◌, Some, slice_get, All, subst}
 use Rattle.std.proofs.lemmas.Option.{slice_get_within, get_or_from_slice_get}
 use Rattle.std.proofs.lemmas.List.{drop_all, length-map}
 use Rattle.std.proofs.Math.Seq.{drop-cons}
@@ -33,6 +33,18 @@ module _ {A : Type 0} (f : A → ℕ) where
       let none : greatest (map f (drop i xs)) ≡ 0 = ap (λ ys. greatest (map f ys)) (drop_all i xs all) in
       omega (arith, none, so_far)
 
+  -- the same, where the whole is the greatest of more
+  pub greatest_rest : (xs : List A) (i most next : ℕ) (x : A) (whole : ℕ) → slice_get xs i ≡ Some x → next ≡ max (f x) most →
+      max most (greatest (map f (drop i xs))) ≡ whole → max next (greatest (map f (drop (i + 1) xs))) ≡ whole
+  greatest_rest xs i most next x whole there is so_far =
+      let split : greatest (map f (drop i xs)) ≡ max (f x) (greatest (map f (drop (i + 1) xs))) = ap (λ ys. greatest (map f ys)) (drop_here xs i x there) in
+      omega (arith, split, is, so_far)
+
+  pub greatest_last : (xs : List A) (i most whole : ℕ) → length xs ≤ i → max most (greatest (map f (drop i xs))) ≡ whole → most ≡ whole
+  greatest_last xs i most whole all so_far =
+      let none : greatest (map f (drop i xs)) ≡ 0 = ap (λ ys. greatest (map f ys)) (drop_all i xs all) in
+      omega (arith, none, so_far)
+
 -- the greatest of two lists is that of the first, or of the second
 pub greatest_both : (u v : Vector) (most next : ℕ) → most ≡ greatest (map unsigned_abs u) → max most (greatest (map unsigned_abs v)) ≡ next → next ≡ greatest (map unsigned_abs (u ++ v))
 greatest_both [] v most next is both = omega (arith, is, both)
@@ -54,3 +66,9 @@ image_small p w i a small there =
     let entry = get_or_from_slice_get (product p.link w) i a (pos 0) there in
     let low = small i (pos 0) (slice_get_within (product p.link w) i a there) in
     omega (arith, low, ap unsigned_abs entry)
+
+pub length-product : (p : Program) (w : Vector) → length (product p.link w) ≡ length p.link.rows
+length-product p w = length-map p.link.rows (λ r. dot r w)
+
+pub all_there : {A : Type 0} (P : A → Type 0) (xs : List A) (i : ℕ) (x : A) → All P xs → slice_get xs i ≡ Some x → P x
+all_there P xs i x all there = subst P (get_or_from_slice_get xs i x x there) (all i x (slice_get_within xs i x there))

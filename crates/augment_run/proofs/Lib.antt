@@ -3,8 +3,3 @@ pub mod PointLaws
 pub mod StepLaws
 pub mod RoundLaws
 pub mod RunLaws
-pub mod RowLists
-pub mod SumRows
-pub mod PlanLaws
-pub mod SolveLaws
-pub mod CertifyLaws

@@ -1,6 +1,6 @@
 -- The point after a step, brick by brick: what was recorded of the step is read beside the point.
-use Rattle.std.proofs.Common.{◌≡◌, ℕ, zero, suc, ◌+◌, ◌^◌, ◌<◌, ◌≤◌, pos, Bool, true, false, List, [], ◌∷◌, ◌++◌, length, take, drop, get_or, refl, ap, arith, sym, ◌∙◌, Some, Option, slice_get, All, flat_map, append-nil}
-use Rattle.std.proofs.lemmas.List.{take_more, take_all, length-append}
+use Rattle.std.proofs.Common.{◌≡◌, ℕ, zero, suc, ◌+◌, ◌-◌, ◌^◌, ◌<◌, ◌≤◌, pos, Bool, true, false, List, [], ◌∷◌, ◌++◌, length, take, drop, get_or, refl, ap, arith, sym, ◌∙◌, Some, Option, slice_get, All, flat_map, append-nil}
+use Rattle.std.proofs.lemmas.List.{take_more, take_all, length-append, length-drop}
 use Rattle.std.proofs.Math.Seq.{drop-cons, take-append_seam, drop-append_seam}
 use Rattle.std.proofs.lemmas.Grind.{flat_map-append}
 use Rattle.std.proofs.lemmas.Option.{slice_get-get_or, slice_get_within, get_or_from_slice_get}
@@ -27,6 +27,10 @@ drop_here xs k x e =
     let next : suc k ≡ k + 1 = omega arith in
     drop-cons xs k x low ∙ ap (λ n. get_or xs k x ∷ drop n xs) next ∙ ap (λ y. y ∷ drop (k + 1) xs) (get_or_from_slice_get xs k x x e)
 
+-- what a part up to the end of a list is
+pub rest_of : {A : Type 0} (n : ℕ) (xs ys : List A) → ys ≡ take (length xs - n) (drop n xs) → ys ≡ drop n xs
+rest_of n xs ys is = is ∙ take_all (length xs - n) (drop n xs) (omega (arith, length-drop n xs))
+
 -- ---- what is recorded of a step
 
 -- what is recorded from brick i on, by whether its part is zero
@@ -48,13 +52,13 @@ named_some i d h some =
 -- the bricks that are named come after the one before
 named_behind : (i : ℕ) (h : Bricks) (j : ℕ) → slice_get (nonzero_from (suc i) h) 0 ≡ Some j → i < j
 named_behind i [] j e = absurd (cc)
-named_behind i (d ∷ h) j e = by (is_zero d) refl
+named_behind i (d ∷ h) j e = by (is_zero d) refl (λ later. named_behind (suc i) h j later)
   where
-    by : (b : Bool) → is_zero d ≡ b → i < j
-    by true none =
-        let low = named_behind (suc i) h j (ap (λ ns. slice_get ns 0) (sym (named_zero i d h none).0) ∙ e) in
+    by : (b : Bool) → is_zero d ≡ b → (slice_get (nonzero_from (suc (suc i)) h) 0 ≡ Some j → suc i < j) → i < j
+    by true none behind =
+        let low = behind (ap (λ ns. slice_get ns 0) (sym (named_zero i d h none).0) ∙ e) in
         omega (arith, low)
-    by false some =
+    by false some behind =
         let same : suc i ≡ j = at_same (Some (suc i)) (suc i) j refl (ap (λ ns. slice_get ns 0) (sym (named_some i d h some).0) ∙ e) in
         omega (arith, same)
 
@@ -149,21 +153,22 @@ module _ (t k : ℕ) (x h : Bricks) where
             }
 
     -- a brick that is named moves by its part
-    pub stepped_moved : (i : ℕ) (v end entries next : Vector) (names : List ℕ) (parts : Vector) → slice_get x i ≡ Some v → slice_get names 0 ≡ Some (i + 1) →
-        end ≡ add v (scale (pos (2 ^ k)) (take t parts)) → next ≡ entries ++ end → SteppedUpTo i names parts entries →
-        SteppedUpTo (i + 1) (drop 1 names) (drop t parts) next
-    stepped_moved i v end entries next names parts at named is pushed so_far =
+    pub stepped_moved : (i : ℕ) (v end entries next : Vector) (names next_names : List ℕ) (parts next_parts : Vector) → slice_get x i ≡ Some v →
+        slice_get names 0 ≡ Some (i + 1) → end ≡ add v (scale (pos (2 ^ k)) (take t parts)) → next ≡ entries ++ end → next_names ≡ drop 1 names →
+        next_parts ≡ drop t parts → SteppedUpTo i names parts entries → SteppedUpTo (i + 1) next_names next_parts next
+    stepped_moved i v end entries next names next_names parts next_parts at named is pushed fewer less so_far =
         let p = part_of i names parts entries (slice_get_within x i v at) named so_far in
         record {
           so_far = pushed ∙ written i v p.part end entries at p.there (is ∙ ap (λ d. add v (scale (pos (2 ^ k)) d)) p.is) so_far.so_far;
-          names_left = p.names_after;
-          parts_left = p.parts_after;
+          names_left = fewer ∙ p.names_after;
+          parts_left = less ∙ p.parts_after;
         }
 
     -- a brick that is not named stays
-    pub stepped_still : (i : ℕ) (v entries next : Vector) (names : List ℕ) (parts : Vector) → slice_get x i ≡ Some v → (slice_get names 0 ≡ Some (i + 1) → ⊥) →
-        next ≡ entries ++ v → SteppedUpTo i names parts entries → SteppedUpTo (i + 1) names parts next
-    stepped_still i v entries next names parts at unnamed pushed so_far = by (is_zero d) refl
+    pub stepped_still : (i : ℕ) (v entries next : Vector) (names next_names : List ℕ) (parts next_parts : Vector) → slice_get x i ≡ Some v →
+        (slice_get names 0 ≡ Some (i + 1) → ⊥) → next ≡ entries ++ v → next_names ≡ names → next_parts ≡ parts → SteppedUpTo i names parts entries →
+        SteppedUpTo (i + 1) next_names next_parts next
+    stepped_still i v entries next names next_names parts next_parts at unnamed pushed names_kept parts_kept so_far = by (is_zero d) refl
       where
         move : (d : Vector) × (slice_get h i ≡ Some d)
         move = there_at h i (omega (arith, slice_get_within x i v at, same))
@@ -180,7 +185,7 @@ module _ (t k : ℕ) (x h : Bricks) where
         number : i + 1 ≡ suc i
         number = omega arith
 
-        by : (b : Bool) → is_zero d ≡ b → SteppedUpTo (i + 1) names parts next
+        by : (b : Bool) → is_zero d ≡ b → SteppedUpTo (i + 1) next_names next_parts next
         by true none =
             let names_are : names ≡ nonzero_from (suc (suc i)) rest = so_far.names_left ∙ ap (nonzero_from (suc i)) here ∙ (named_zero i d rest none).0 in
             let parts_are : parts ≡ nonzero_entries rest = so_far.parts_left ∙ ap nonzero_entries here ∙ (named_zero i d rest none).1 in
@@ -189,8 +194,8 @@ module _ (t k : ℕ) (x h : Bricks) where
             let still : v ≡ add v (scale (pos (2 ^ k)) d) = sym (ap (add v) nothing ∙ add_zeros v (length d) width) in
             record {
               so_far = pushed ∙ written i v d v entries at move.1 still so_far.so_far;
-              names_left = names_are ∙ ap (λ n. nonzero_from (suc n) rest) (sym number);
-              parts_left = parts_are;
+              names_left = names_kept ∙ names_are ∙ ap (λ n. nonzero_from (suc n) rest) (sym number);
+              parts_left = parts_kept ∙ parts_are;
             }
         by false some =
             let names_are : names ≡ suc i ∷ nonzero_from (suc (suc i)) rest = so_far.names_left ∙ ap (nonzero_from (suc i)) here ∙ (named_some i d rest some).0 in

@@ -30,10 +30,13 @@ fn widest_entry(fold: &Fold) -> u128
     ensures widest { result ≡ outcomes.widest_entry fold.now.program (vectors fold.now.sums) }
     ensures small { result ≤ 2 ^ 63 }
 {
+    let program = fold.program();
+    // the brick matrix has as many columns as the linking matrix
+    prove!(program.n() > 0);
     let sums = fold.sums();
     let mut widest = 0;
     for i in 0..sums.len() {
-        widest = widest_of(fold.program(), sums.get(i)).max(widest);
+        widest = widest_of(program, sums.get(i)).max(widest);
     }
     widest
 }

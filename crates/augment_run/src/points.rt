@@ -9,6 +9,7 @@ ghost use Rattle.augment_run.specs.Steps.{LeadsTo};
 use brick_dp::{Fold, Step};
 use fold_program::{Phase, Point};
 use std::alloc::{AllocError, Global};
+use step_lengths::count;
 use step_targets::target;
 
 /// What the phase counts: the cost of the point, or how far its linking rows are from being met.
@@ -37,8 +38,10 @@ pub(crate) fn stepped(
 {
     let program = fold.program();
     let cols = program.t() as usize;
-    // the sums have an entry for each column
+    // the sums have an entry for each column, and the step's length is one of the program's
     let _ = fold.sums();
+    let lengths = count(program.widest());
+    prove!(step.k < lengths);
     let mut names = step.bricks.as_slice();
     let mut parts = step.entries.as_slice();
     let mut entries = Vec::new(alloc);

@@ -1,6 +1,6 @@
 //! One round: the best step of all lengths.
 
-ghost use Rattle.std.specs.Prelude.{IfOk};
+ghost use Rattle.std.specs.Prelude.{◌≡◌, IfOk};
 ghost use Rattle.run_theory.specs.Starts.{IsStart};
 ghost use Rattle.run_theory.specs.Folds.{HasBrickSums};
 ghost use Rattle.run_theory.specs.Bests.{IsRuleStep};
