@@ -1,7 +1,17 @@
-//! Steps and least costs of programs of two and three bricks with two columns each, one linking row and one brick row.
-//! Their values were worked by hand and by a separate reading of the rules that tries all candidates.
+//! The calls that need no brick sums.
 
-mod counters;
-mod programs;
-mod steps;
-mod tables;
+use crate::{Bound, Moves, NoBound};
+use std::rt::HostRuntime;
+
+#[test]
+fn a_counter_counts_its_ticks(rt: HostRuntime) {
+    let mut moves = Moves::new();
+    moves.tick();
+    moves.tick();
+    assert_eq!(rt; moves.count(), 2);
+}
+
+#[test]
+fn no_bound_answers_none(rt: HostRuntime) {
+    assert!(rt; NoBound.now().is_none());
+}
