@@ -1,5 +1,5 @@
 -- Laws of the point of a certificate: its rows one after the other, and the entries that make it.
-use Rattle.std.proofs.Common.{◌≡◌, ℕ, ◌+◌, ◌-◌, ◌*◌, ℤ, Bool, true, false, ◌&&◌, List, [], ◌∷◌, length, drop, flat_map, Option, Some, None, arith, sym, ◌∙◌, subst, slice_get, All, IfSome, IsSome, refl}
+use Rattle.std.proofs.Common.{◌≡◌, ℕ, ◌+◌, ◌-◌, ◌*◌, ℤ, Bool, true, false, List, [], ◌∷◌, length, drop, flat_map, Option, Some, None, arith, sym, ◌∙◌, subst, slice_get, All, IfSome, IsSome}
 use Rattle.std.proofs.lemmas.List.Elements.{recursion_from_All}
 use Rattle.lattice_theory.specs.Lists.{all_zip}
 use Rattle.lattice_theory.specs.Vectors.{Vector}

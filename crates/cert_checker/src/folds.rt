@@ -58,7 +58,14 @@ pub(crate) fn check_fold(
     if let Some(rule) = broken_list(alloc, program, phase, c, fold, &generators)? {
         return Ok(Check::No(rule));
     }
-    if !potentials_hold(alloc, program, phase, &point, fold.sums(), fold.potentials())? {
+    if !potentials_hold(
+        alloc,
+        program,
+        phase,
+        &point,
+        fold.sums(),
+        fold.potentials(),
+    )? {
         return Ok(Check::No(Rule::C6));
     }
     Ok(last_answer(program, phase, &point))

@@ -1,16 +1,11 @@
-use Rattle.std.proofs.Common.{◌≡◌, Some, length, nat_eq, nat_le, true, false, All, rules, sym, ap, ◌∙◌, subst}
-use Rattle.lattice_theory.specs.Lists.{all_zip}
-use Rattle.lattice_theory.specs.BasisLimits.{IsNarrow}
-use Rattle.lattice_theory.specs.Lattices.{is_complete_for, kernel}
-use Rattle.fold_theory.specs.Programs.{AreWithin, is_within, brick_residual}
-use Rattle.run_theory.specs.Links.{link_matrix, complexity}
-use Rattle.run_theory.specs.Checker.{listed_links, listed_generators}
+use Rattle.std.proofs.Common.{◌≡◌, true, false, All, sym, ◌∙◌, subst}
+use Rattle.lattice_theory.specs.Lattices.{is_complete_for}
+use Rattle.run_theory.specs.Links.{link_matrix}
+use Rattle.run_theory.specs.Checker.{listed_links}
 use Rattle.certificate.specs.Readable.{IsSumRow}
 use Rattle.listed_links.specs.Images.{IsLinkMatrix}
 use Rattle.listed_links.proofs.ImageLaws.{wide-incomplete}
-use Rattle.cert_checker.specs.Folds.{IsPointOf, meets_links}
-use Rattle.cert_checker.proofs.PointLaws.{all-within}
-use Rattle.cert_checker.proofs.FoldLaws.{third-breaks, fourth-breaks, fifth-breaks, none-breaks, last-passes, brick-test, links-test, light-test, closed-test, all-modest, cols-fit, all-fit, not-within, misses-rows, misses-links, held-test, first-breaks, list-breaks, potentials-break, last-decides}
+use Rattle.cert_checker.proofs.FoldLaws.{third-breaks, fourth-breaks, fifth-breaks, none-breaks, brick-test, links-test, light-test, closed-test, all-modest}
 use Rattle.cert_checker.proofs.folds.broken_list.Goals as goal
 
 pub returns-in_default : goal.returns-in_default

@@ -1,6 +1,6 @@
 use Rattle.std.proofs.Common.{◌≡◌, drop, nat_eq}
 use Rattle.lattice_theory.specs.Lists.{all_zip}
-use Rattle.fold_theory.specs.Programs.{is_within, brick_residual}
+use Rattle.fold_theory.specs.Programs.{brick_residual}
 use Rattle.cert_checker.proofs.points.meet_brick_rows.Given as goal
 
 abbrev pub invariant-loop-before : goal.invariant-loop-before

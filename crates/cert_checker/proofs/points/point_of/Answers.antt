@@ -1,4 +1,4 @@
-use Rattle.std.proofs.Common.{◌≡◌, length, rules, All, sym, ◌∙◌, arith, flat_map}
+use Rattle.std.proofs.Common.{◌≡◌, length, rules, All, flat_map}
 use Rattle.cert_checker.proofs.PointLaws.{point-made}
 use Rattle.cert_checker.proofs.points.point_of.Goals as goal
 
