@@ -1,5 +1,5 @@
 -- The table of all layers has the least costs of walks.
-use Rattle.std.proofs.Common.{◌≡◌, ℕ, ◌+◌, ◌-◌, ◌<◌, ◌≤◌, ℤ, List, [], length, reverse, drop, ap, arith, sym, ◌∙◌, Some, None, Option, slice_get, subst, All, get_or}
+use Rattle.std.proofs.Common.{◌≡◌, ℕ, ◌+◌, ◌-◌, ◌^◌, ◌<◌, ◌≤◌, ℤ, List, [], length, reverse, drop, refl, ap, arith, sym, ◌∙◌, Some, None, Option, slice_get, subst, All, get_or}
 use Rattle.std.proofs.lemmas.List.{length-map, length-reverse, get_or-reverse}
 use Rattle.std.proofs.lemmas.Option.{slice_get-get_or, slice_get_within, get_or_from_slice_get}
 use Rattle.lattice_theory.specs.Vectors.{Vector}
@@ -9,9 +9,11 @@ use Rattle.run_theory.specs.Walks.{IsPotential}
 use Rattle.run_theory.specs.Outcomes.{ArePotentials}
 use Rattle.run_theory.specs.Folds.{FoldValue}
 use Rattle.walk_laws.proofs.BestWalks.{IsLeastWalk}
+use Rattle.fold_program.specs.Refusals.{total_magnitude}
+use Rattle.layer_sieve.specs.Reaching.{AreAtMost}
 use Rattle.sieve_laws.specs.Sieve.{Layer}
 use Rattle.brick_dp.specs.Tables.{AreLayers, table_of, IsCell}
-use Rattle.brick_dp.proofs.FillLaws.{there_at}
+use Rattle.brick_dp.proofs.FillLaws.{there_at, most_small}
 
 -- the rows of the table are those of the layers, the other way round
 pub row_at : (cols : ℕ) (layers : List Layer) (i : ℕ) (layer : Layer) → i < length layers → slice_get layers (length layers - 1 - i) ≡ Some layer →
@@ -84,3 +86,16 @@ are_potentials f x layers cols are is = record {
               at.1,
               least_is_potential f x i w at.0 walk,
             )
+
+-- and none of them is large
+pub potentials_small : (f : FoldValue) (x : Bricks) (layers : List Layer) (cols : ℕ) → AreLayers f x 0 (length f.program.bricks + 1) layers →
+    total_magnitude f.program ≤ 2 ^ 120 → All (AreAtMost (2 ^ 122)) (table_of cols layers).rows
+potentials_small f x layers cols are most i d low = by (there_at layers (length layers - 1 - i) (omega (arith, low, height cols layers)))
+  where
+    by : (layer : Layer) × (slice_get layers (length layers - 1 - i) ≡ Some layer) → AreAtMost (2 ^ 122) (get_or (table_of cols layers).rows i d)
+    by (layer, there) =
+        let at = row_at cols layers i layer (omega (arith, low, height cols layers)) there in
+        let m = length layers - 1 - i in
+        subst (AreAtMost (2 ^ 122)) (sym (get_or_from_slice_get (table_of cols layers).rows i layer d at)) (
+        most_small f.program (length f.program.bricks - m) layer most (are.each m layer there).small
+        )

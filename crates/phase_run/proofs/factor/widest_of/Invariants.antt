@@ -1,8 +1,8 @@
 use Rattle.std.proofs.Common.{◌≡◌, ◌≤◌, ◌^◌, max, map, drop, unsigned_abs}
 use Rattle.lattice_theory.specs.Lists.{greatest}
 use Rattle.lattice_theory.specs.Matrices.{product}
-use Rattle.augment_run.proofs.FactorLaws.{GreatestUpTo}
-use Rattle.augment_run.proofs.factor.widest_of.Given as goal
+use Rattle.phase_run.proofs.FactorLaws.{GreatestUpTo}
+use Rattle.phase_run.proofs.factor.widest_of.Given as goal
 
 abbrev pub invariant-loop-entry : goal.invariant-loop-entry
 invariant-loop-entry l = record {

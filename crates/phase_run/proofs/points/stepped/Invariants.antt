@@ -2,8 +2,8 @@ use Rattle.std.proofs.Common.{◌≡◌}
 use Rattle.lattice_theory.specs.SignedSums.{vectors}
 use Rattle.run_theory.specs.Steps.{Move, IsBest}
 use Rattle.run_theory.specs.Outcomes.{step_at}
-use Rattle.augment_run.proofs.StepLaws.{SteppedUpTo}
-use Rattle.augment_run.proofs.points.stepped.Given as goal
+use Rattle.phase_run.proofs.StepLaws.{SteppedUpTo}
+use Rattle.phase_run.proofs.points.stepped.Given as goal
 
 abbrev pub invariant-loop-i : goal.invariant-loop-i
 invariant-loop-i l =

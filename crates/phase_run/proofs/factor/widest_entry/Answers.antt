@@ -5,8 +5,8 @@ use Rattle.lattice_theory.specs.Matrices.{product}
 use Rattle.lattice_theory.specs.SignedSums.{Sum, vectors}
 use Rattle.fold_theory.specs.Programs.{Program, IsProgram}
 use Rattle.run_theory.specs.Folds.{IsSmallImage}
-use Rattle.augment_run.proofs.FactorLaws.{greatest_more, all_there}
-use Rattle.augment_run.proofs.factor.widest_entry.Goals as goal
+use Rattle.phase_run.proofs.FactorLaws.{greatest_more, all_there}
+use Rattle.phase_run.proofs.factor.widest_entry.Goals as goal
 
 pub widest_of-requires-clause-width : goal.widest_of-requires-clause-width
 widest_of-requires-clause-width c =

@@ -14,7 +14,7 @@ use Rattle.run_theory.specs.Bests.{IsRuleStep}
 use Rattle.piece_laws.proofs.Frames.{sums_quiet}
 use Rattle.run_laws.proofs.PhaseRuns.{step_start}
 use Rattle.count_laws.proofs.FewSteps.{few_steps, run_gains}
-use Rattle.augment_run.specs.Steps.{LeadsTo}
+use Rattle.phase_run.specs.Steps.{LeadsTo}
 
 module _ (f : FoldValue) where
   abbrev zs : List Vector

@@ -4,8 +4,8 @@ use Rattle.std.proofs.lemmas.Int.{to_z-of_z}
 use Rattle.lattice_theory.specs.Lists.{greatest}
 use Rattle.lattice_theory.specs.Vectors.{dot}
 use Rattle.lattice_theory.specs.Matrices.{Matrix, product}
-use Rattle.augment_run.proofs.FactorLaws.{greatest_rest, greatest_last, greatest_both, image_there, image_small, length-product}
-use Rattle.augment_run.proofs.factor.widest_of.Goals as goal
+use Rattle.phase_run.proofs.FactorLaws.{greatest_rest, greatest_last, greatest_both, image_there, image_small, length-product}
+use Rattle.phase_run.proofs.factor.widest_of.Goals as goal
 
 pub loop-row-preserved : goal.loop-row-preserved
 loop-row-preserved c =

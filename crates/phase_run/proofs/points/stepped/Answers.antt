@@ -9,10 +9,10 @@ use Rattle.fold_program.specs.Points.{IsPoint}
 use Rattle.run_theory.specs.Steps.{moved}
 use Rattle.run_theory.specs.Outcomes.{Step}
 use Rattle.step_targets.specs.Targets.{after, AreBetween}
-use Rattle.augment_run.proofs.PointLaws.{shape_of, step_sizes, part_within, leads_somewhere, leads_there, sized_at, if_some, rows_of_point, length-entries}
-use Rattle.augment_run.proofs.StepLaws.{rest_of, part_of, moved_there, stepped_moved, stepped_still, stepped_all}
-use Rattle.augment_run.proofs.points.stepped.Goals as goal
-use Rattle.augment_run.proofs.points.stepped.Goals.{then-is_first+in_ok-end+in-Some+in_ok-extend_from_slice, else-is_first+in_ok-extend_from_slice-2}
+use Rattle.phase_run.proofs.PointLaws.{shape_of, step_sizes, part_within, leads_somewhere, leads_there, sized_at, if_some, rows_of_point, length-entries}
+use Rattle.phase_run.proofs.StepLaws.{rest_of, part_of, moved_there, stepped_moved, stepped_still, stepped_all}
+use Rattle.phase_run.proofs.points.stepped.Goals as goal
+use Rattle.phase_run.proofs.points.stepped.Goals.{then-is_first+in_ok-end+in-Some+in_ok-extend_from_slice, else-is_first+in_ok-extend_from_slice-2}
 
 pub brick-at-requires-clause-to : goal.brick-at-requires-clause-to
 brick-at-requires-clause-to c =

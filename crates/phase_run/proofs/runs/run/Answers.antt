@@ -5,8 +5,8 @@ use Rattle.lattice_theory.specs.SignedSums.{vectors}
 use Rattle.fold_theory.specs.Programs.{IsProgram, phase_cost}
 use Rattle.run_theory.specs.Steps.{NoneAugments}
 use Rattle.run_theory.specs.Bests.{IsRuleStep}
-use Rattle.augment_run.proofs.RunLaws.{run_more, run_all, run_few, step_lowers, height_falls}
-use Rattle.augment_run.proofs.runs.run.Goals as goal
+use Rattle.phase_run.proofs.RunLaws.{run_more, run_all, run_few, step_lowers, height_falls}
+use Rattle.phase_run.proofs.runs.run.Goals as goal
 
 pub cost_in_phase-after-requires : goal.cost_in_phase-after-requires
 cost_in_phase-after-requires g c =

@@ -1,7 +1,7 @@
 use Rattle.std.proofs.Common.{◌≡◌}
 use Rattle.fold_theory.specs.Programs.{phase_cost}
-use Rattle.augment_run.proofs.RunLaws.{RunSoFar, height}
-use Rattle.augment_run.proofs.runs.run.Given as goal
+use Rattle.phase_run.proofs.RunLaws.{RunSoFar, height}
+use Rattle.phase_run.proofs.runs.run.Given as goal
 
 abbrev pub invariant-loop-steps : goal.invariant-loop-steps
 invariant-loop-steps g l = record {

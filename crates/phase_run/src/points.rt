@@ -4,7 +4,7 @@ ghost use Rattle.std.specs.Prelude.{◌≡◌, Some, slice_get, IfOk, MatchBool}
 ghost use Rattle.fold_theory.specs.Programs.{phase_cost};
 ghost use Rattle.run_theory.specs.Starts.{IsStart};
 ghost use Rattle.run_theory.specs.Bests.{IsRuleStep};
-ghost use Rattle.augment_run.specs.Steps.{LeadsTo};
+ghost use Rattle.phase_run.specs.Steps.{LeadsTo};
 
 use brick_dp::{Fold, Step};
 use fold_program::{Phase, Point};

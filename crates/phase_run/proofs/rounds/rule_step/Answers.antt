@@ -1,8 +1,8 @@
 use Rattle.std.proofs.Common.{◌+◌, ◌∙◌, ap, sym, subst}
 use Rattle.rule_laws.specs.BestUpTo.{IsBestUpTo}
-use Rattle.augment_run.proofs.RoundLaws.{round_found, round_beaten}
-use Rattle.augment_run.proofs.rounds.rule_step.Goals as goal
-use Rattle.augment_run.proofs.rounds.rule_step.Goals.{in-Found, in-Beaten}
+use Rattle.phase_run.proofs.RoundLaws.{round_found, round_beaten}
+use Rattle.phase_run.proofs.rounds.rule_step.Goals as goal
+use Rattle.phase_run.proofs.rounds.rule_step.Goals.{in-Found, in-Beaten}
 
 pub loop-k-preserved : goal.loop-k-preserved
 loop-k-preserved c =
