@@ -1,7 +1,6 @@
 -- The words of a completion at values worked by hand, for the row (1 2 1).
-use Rattle.std.specs.Prelude.{◌≡◌, ℕ, ℤ, pos, neg_ℤ, true, false, List, [], ◌∷◌, refl}
+use Rattle.std.specs.Prelude.{◌≡◌, ℤ, pos, neg_ℤ, true, false, [], ◌∷◌, refl}
 use Rattle.lattice_theory.specs.Vectors.{Vector}
-use Rattle.lattice_theory.specs.Matrices.{Matrix}
 use Rattle.lattice_laws.proofs.Completion.{counts}
 use Rattle.pottier.specs.Stages.{first_rows, with_product}
 

@@ -11,8 +11,10 @@ use Rattle.lattice_theory.specs.BasisLimits.{IsNarrow}
 use Rattle.lattice_laws.proofs.Tests.{not_both}
 use Rattle.lattice_laws.proofs.Conformal.{norm1-cons, norm_agree, take-add, opposite-opposite}
 use Rattle.lattice_laws.proofs.SlackBases.{IsReducible}
-use Rattle.lattice_laws.proofs.Completion.{counts, counts_parts}
+use Rattle.lattice_laws.proofs.Completion.{counts_parts}
 use Rattle.pottier.specs.Vectors.{vectors}
+use Rattle.pottier.specs.Partners.{partner, pair_counts, norm_of_sum}
+use Rattle.pottier.proofs.PartnerLaws.{partner_norm}
 
 -- ---- narrow vectors
 
@@ -23,8 +25,10 @@ norm_narrow (a ∷ v) h = omega (arith, norm1-cons a v, norm_narrow v h.1, h.0)
 pub norm_of_narrow : (n : ℕ) (v : Vector) → IsNarrow v → norm1 (take n v) ≤ 2 ^ 31 * length (take n v)
 norm_of_narrow n v h = norm_narrow (take n v) (recursion_from_All (λ a. unsigned_abs a < 2 ^ 31) (take n v) (All-take (λ a. unsigned_abs a < 2 ^ 31) n v h))
 
-pub norm_of_pair : (n : ℕ) (p q : Vector) → counts n p q ≡ true → norm1 (take n p) + norm1 (take n q) ≡ norm1 (take n (add p q))
-norm_of_pair n p q h = sym (norm_agree (take n p) (take n q) (counts_parts n p q h).0) ∙ ap norm1 (sym (take-add n p q))
+pub norm_of_pair : (at : ℕ) (p q : Vector) → pair_counts at p q ≡ true → norm1 (take at p) + norm1 (take at q) ≡ norm_of_sum at p q
+norm_of_pair at p q h =
+    ap (λ n. norm1 (take at p) + n) (sym (partner_norm at p q)) ∙ sym (norm_agree (take at p) (take at (partner at p q)) (counts_parts at p (partner at p q) h).0)
+    ∙ ap norm1 (sym (take-add at p (partner at p q)))
 
 -- the sum of narrow vectors has no large entry
 sum_bounded : (i : ℕ) (p q : Vector) → AllByRecursion (λ a. unsigned_abs a < 2 ^ 31) p → AllByRecursion (λ a. unsigned_abs a < 2 ^ 31) q →

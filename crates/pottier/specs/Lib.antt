@@ -1,4 +1,6 @@
 pub mod Vectors
+pub mod Partners
 pub mod Stages
+pub mod Queues
 pub mod Bases
 pub mod Faults

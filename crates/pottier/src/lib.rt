@@ -8,6 +8,7 @@ mod basis;
 mod completion;
 mod fault;
 mod pairs;
+mod queue;
 mod slack;
 
 pub use basis::{Basis, kernel, one_basis};

@@ -1,10 +1,11 @@
-use Rattle.std.proofs.Common.{◌-◌, ◌^◌}
+use Rattle.std.proofs.Common.{◌+◌, ◌-◌, ◌*◌, length}
+use Rattle.std.specs.BinaryHeap.{heap_items}
 use Rattle.pottier.specs.Vectors.{vectors}
-use Rattle.pottier.specs.Stages.{AreCovered}
+use Rattle.pottier.specs.Queues.{AreQueued}
 use Rattle.pottier.proofs.completion.complete.Given as goal
 
-abbrev pub invariant-loop-norm : goal.invariant-loop-norm
-invariant-loop-norm l = AreCovered l.at l.limit (vectors l.initial.members.items) l.done (vectors l.members.items)
+abbrev pub invariant-loop-pair : goal.invariant-loop-pair
+invariant-loop-pair l = AreQueued l.at l.limit (vectors l.initial.members.items) (heap_items l.pairs) (vectors l.members.items)
 
-abbrev pub decreases-loop-norm : goal.decreases-loop-norm
-decreases-loop-norm l = 2 ^ 43 - l.done
+abbrev pub decreases-loop-pair : goal.decreases-loop-pair
+decreases-loop-pair l = (l.limit - length (vectors l.members.items)) * (l.limit + 1) + length (heap_items l.pairs)
