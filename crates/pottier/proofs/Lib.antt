@@ -1,6 +1,7 @@
 pub mod PairLaws
 pub mod StageLaws
 pub mod PartnerLaws
+pub mod SignLaws
 pub mod QueueLaws
 pub mod RowLaws
 pub mod BasisLaws

@@ -9,7 +9,7 @@ use Rattle.std.proofs.lemmas.List.Elements.{recursion_from_All, All-take, Contai
 use Rattle.lattice_theory.specs.Vectors.{Vector, conforms, norm1, add, opposite, is_bounded, first_unbounded}
 use Rattle.lattice_theory.specs.BasisLimits.{IsNarrow}
 use Rattle.lattice_laws.proofs.Tests.{not_both}
-use Rattle.lattice_laws.proofs.Conformal.{norm1-cons, norm_agree, take-add, opposite-opposite}
+use Rattle.lattice_laws.proofs.Conformal.{conforms_turned, norm1-cons, norm_agree, take-add, opposite-opposite}
 use Rattle.lattice_laws.proofs.SlackBases.{IsReducible}
 use Rattle.lattice_laws.proofs.Completion.{counts_parts}
 use Rattle.pottier.specs.Vectors.{vectors}
@@ -56,19 +56,20 @@ no_large_sum p q at h k e =
 abbrev pub lies_below : Vector → Vector → Bool
 lies_below v z = conforms v z || conforms (opposite v) z
 
-either_true : (s t : Bool) → (s || t) ≡ true → (s ≡ true) ⊎ (t ≡ true)
-either_true true t h = inl refl
-either_true false t h = inr h
-
 pub both_false : (s t : Bool) → (s || t) ≡ false → (s ≡ false) × (t ≡ false)
 both_false true t h = absurd (cc)
 both_false false t h = (refl, h)
 
-pub reducible_by : (vs : List Vector) (v z : Vector) → Contains vs v → lies_below v z ≡ true → IsReducible vs z
-reducible_by vs v z c h = elim (either_true (conforms v z) (conforms (opposite v) z) h) [
-  | inl b ↦ (v, inl c, b)
-  | inr b ↦ (opposite v, inr (subst (Contains vs) (sym (opposite-opposite v)) c), b)
-]
+pub reducible_as : (vs : List Vector) (v z : Vector) → Contains vs v → conforms v z ≡ true → IsReducible vs z
+reducible_as vs v z c below = (v, inl c, below)
+
+pub reducible_turned : (vs : List Vector) (v z turned : Vector) → Contains vs v → turned ≡ opposite z → conforms v turned ≡ true → IsReducible vs z
+reducible_turned vs v z turned c e below =
+    (opposite v, inr (subst (Contains vs) (sym (opposite-opposite v)) c), sym (conforms_turned v z) ∙ ap (conforms v) (sym e) ∙ below)
+
+pub not_below : (v z turned : Vector) → turned ≡ opposite z → conforms v z ≡ false → conforms v turned ≡ false → lies_below v z ≡ false
+not_below v z turned e plain other =
+    ap (λ t. t || conforms (opposite v) z) plain ∙ sym (conforms_turned v z) ∙ ap (conforms v) (sym e) ∙ other
 
 pub none_reducible : (z : Vector) → IsReducible [] z → ⊥
 none_reducible z (e, inl (k, low, f), b) = absurd (omega arith)

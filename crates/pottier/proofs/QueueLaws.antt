@@ -271,6 +271,17 @@ queue_more at limit old es rest next now later x h same pops fits grows settled 
     take_old : (us vs : List Vector) → Grows us vs → take (length us) vs ≡ us
     take_old us vs (xs, e) = ap (take (length us)) e ∙ take-append_seam us xs
 
+-- the sum of the first pair has the length of the members and small entries
+pub first_fits : (at limit : ℕ) (old : List Vector) (es rest : List Pair) (now : List Vector) (x : Pair) (z : Vector) → AreQueued at limit old es now → IsPermutation es (x ∷ rest) →
+    z ≡ sum_of_pair at (first_of now x) (second_of now x) → (length z ≡ at + 1) × All (λ a. unsigned_abs a < 2 ^ 62) z
+first_fits at limit old es rest now x z h same is = sum_fits at now x z h.fitting.members (queue_first at limit old es rest now x h same) is
+
+-- it is due
+pub first_due : (m : Matrix) (at limit : ℕ) (old : List Vector) (es rest : List Pair) (now : List Vector) (x : Pair) (z : Vector) → AreQueued at limit old es now → IsPermutation es (x ∷ rest) →
+    PopsGreatest pair_order es x rest → z ≡ sum_of_pair at (first_of now x) (second_of now x) → IsStage m at old → IsDue m at now z
+first_due m at limit old es rest now x z h same pops is stage =
+    pair_due m at now x z (h.stage m stage) (queue_first at limit old es rest now x h same) is (queue_next m at limit old es rest now x h pops stage)
+
 -- each step leaves fewer pairs, or fewer places for members
 pub work_falls : (limit few more here rest next : ℕ) → few ≤ more → more ≤ few + 1 → more ≤ limit → here ≡ rest + 1 → next ≤ rest + (more - few) * more →
     (limit - more) * (limit + 1) + next < (limit - few) * (limit + 1) + here

@@ -1,5 +1,6 @@
 pub mod Vectors
 pub mod Partners
+pub mod Signs
 pub mod Stages
 pub mod Queues
 pub mod Bases

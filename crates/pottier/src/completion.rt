@@ -5,19 +5,21 @@
 //! the norm of their sums before the new entry, and a sum is added where no member is below it. So each
 //! vector that is added is minimal, and no member is ever taken away.
 
-ghost use Rattle.std.specs.Prelude.{◌≡◌, ℕ, ◌+◌, ◌≤◌, ◌<◌, ◌^◌, ◌⊎◌, length, All, IfErr, OnOk, true, false, unsigned_abs};
+ghost use Rattle.std.specs.Prelude.{◌≡◌, ℕ, ◌+◌, ◌≤◌, ◌<◌, ◌^◌, ◌⊎◌, length, map, All, IfOk, IfErr, OnOk, true, false, unsigned_abs};
 ghost use Rattle.lattice_theory.specs.Vectors as vector;
 ghost use Rattle.lattice_theory.specs.Matrices as matrices;
 ghost use Rattle.lattice_laws.proofs.SlackBases.{IsReducible};
 ghost use Rattle.lattice_laws.proofs.Completion.{CoversBelow};
 ghost use Rattle.pottier.specs.Vectors.{vectors};
 ghost use Rattle.pottier.specs.Partners.{sum_of_pair};
-ghost use Rattle.pottier.specs.Faults.{IsBasisFault};
-ghost use Rattle.pottier.specs.Stages.{AreFitting, Grows, IsStage, IsDue, IsCompleted};
+ghost use Rattle.pottier.specs.Signs as words;
+ghost use Rattle.pottier.specs.Faults.{LimitOnly, IsBasisFault};
+ghost use Rattle.pottier.specs.Stages.{AreMembers, AreFitting, Grows, IsStage, IsDue, IsCompleted};
 ghost use Rattle.pottier.specs.Queues.{IsPairOf, first_of, second_of};
 
 use crate::BasisFault;
-use crate::pairs::{is_narrow, is_reducible, opposite, pair_sum};
+use crate::below::{Signs, all_signs, is_reducible, signs_of};
+use crate::pairs::{is_narrow, opposite, pair_sum};
 use crate::queue::{Pair, pair_up};
 use int_vectors::leads_positive;
 use std::alloc::Global;
@@ -36,46 +38,45 @@ pub fn complete(
     ensures completed { (m : matrices.Matrix) → IsStage m at (vectors members.old.items) → OnOk result (IsCompleted m (vectors members.new.items)) }
     ensures refused { (m : matrices.Matrix) → IsStage m at (vectors members.old.items) → IfErr result (IsBasisFault m limit) }
 {
+    let mut signs = all_signs(alloc, members)?;
     let mut pairs = BinaryHeap::new(alloc);
     pair_up(&mut pairs, members, 0, at)?;
     while let Some(pair) = pairs.pop() {
         let paired = members.len();
-        settle(alloc, members, pair, at, limit)?;
+        let sum = sum_of(alloc, members, pair, at)?;
+        add_sum(alloc, members, &mut signs, sum, limit)?;
         pair_up(&mut pairs, members, paired, at)?;
     }
     Ok(())
 }
 
-/// Adds the sum of a pair, where no member is below it.
-fn settle(
+/// The sum of a pair of members.
+fn sum_of(
     alloc: Global,
-    members: &mut Vec<Vec<i64>>,
+    members: &[Vec<i64>],
     pair: Pair,
     at: usize,
-    limit: usize,
-) -> Result<(), BasisFault>
-    requires fitting { AreFitting (at + 1) limit (vectors members.old.items) }
-    requires pair { IsPairOf at (vectors members.old.items) pair }
-    ensures fitting { OnOk result (AreFitting (at + 1) limit (vectors members.new.items)) }
-    ensures grows { OnOk result (Grows (vectors members.old.items) (vectors members.new.items)) }
-    ensures one { OnOk result (length (vectors members.new.items) ≤ length (vectors members.old.items) + 1) }
-    ensures reducible { OnOk result (IsReducible (vectors members.new.items) (sum_of_pair at (first_of (vectors members.old.items) pair) (second_of (vectors members.old.items) pair))) }
-    ensures stage { (m : matrices.Matrix) → IsStage m at (vectors members.old.items) → CoversBelow m at pair.norm.0 (vectors members.old.items) → OnOk result (IsStage m at (vectors members.new.items)) }
-    ensures refused { (m : matrices.Matrix) → IsStage m at (vectors members.old.items) → CoversBelow m at pair.norm.0 (vectors members.old.items) → IfErr result (IsBasisFault m limit) }
+) -> Result<Vec<i64>, BasisFault>
+    requires members { AreMembers (at + 1) (vectors members.now) }
+    requires pair { IsPairOf at (vectors members.now) pair }
+    ensures sum { IfOk result (λ z. z.items ≡ sum_of_pair at (first_of (vectors members.now) pair) (second_of (vectors members.now) pair)) }
+    ensures refused { IfErr result (LimitOnly ⊥) }
 {
-    let sum = pair_sum(alloc, &members[pair.first], &members[pair.second], at)?;
-    add_sum(alloc, members, sum, limit)
+    pair_sum(alloc, &members[pair.first], &members[pair.second], at)
 }
 
 /// Adds a vector or its opposite, whichever leads positive, where no member is below it.
 fn add_sum(
     alloc: Global,
     members: &mut Vec<Vec<i64>>,
+    signs: &mut Vec<Signs>,
     sum: Vec<i64>,
     limit: usize,
 ) -> Result<(), BasisFault>
+    requires signs { signs.old.items ≡ map words.signs_of (vectors members.old.items) }
     requires fitting { AreFitting (length sum.items) limit (vectors members.old.items) }
     requires small { All (λ x. unsigned_abs x < 2 ^ 62) sum.items }
+    ensures signs { OnOk result (signs.new.items ≡ map words.signs_of (vectors members.new.items)) }
     ensures fitting { OnOk result (AreFitting (length sum.items) limit (vectors members.new.items)) }
     ensures grows { OnOk result (Grows (vectors members.old.items) (vectors members.new.items)) }
     ensures one { OnOk result (length (vectors members.new.items) ≤ length (vectors members.old.items) + 1) }
@@ -84,14 +85,16 @@ fn add_sum(
     ensures refused { (m : matrices.Matrix) (at : ℕ) → IsStage m at (vectors members.old.items) → IsDue m at (vectors members.old.items) sum.items → IfErr result (IsBasisFault m limit) }
 {
     let turned = opposite(alloc, &sum)?;
-    if is_reducible(members, &sum, &turned) {
+    if is_reducible(members, signs, &sum, &turned) {
         return Ok(());
     }
     let member = leading(sum, turned);
     if members.len() == limit || !is_narrow(&member) {
         return Err(BasisFault::Limit);
     }
+    let kept = signs_of(&member);
     members.push(member)?;
+    signs.push(kept)?;
     Ok(())
 }
 

@@ -5,6 +5,7 @@
 #![tactic(auto)]
 
 mod basis;
+mod below;
 mod completion;
 mod fault;
 mod pairs;

@@ -3,19 +3,17 @@
 //! The second vector of a pair is taken with the sign with which its new entry clashes with that of the first.
 //! With the other sign the two new entries agree, so a pair counts with one sign at most.
 
-ghost use Rattle.std.specs.Prelude.{◌≡◌, ◌≤◌, ◌<◌, ◌^◌, ◌+◌, IfOk, IfErr, length, All, MatchBool, unsigned_abs, true, ◌||◌};
+ghost use Rattle.std.specs.Prelude.{◌≡◌, ◌≤◌, ◌<◌, ◌^◌, ◌+◌, IfOk, IfErr, length, All, MatchBool, unsigned_abs, true};
 ghost use Rattle.lattice_theory.specs.Vectors as vector;
 ghost use Rattle.lattice_theory.specs.BasisLimits.{IsNarrow};
 ghost use Rattle.lattice_laws.proofs.Signs as signs;
 ghost use Rattle.lattice_laws.proofs.Conformal as conformal;
-ghost use Rattle.lattice_laws.proofs.SlackBases.{IsReducible};
-ghost use Rattle.pottier.specs.Vectors.{vectors};
 ghost use Rattle.pottier.specs.Partners as partners;
 ghost use Rattle.pottier.specs.Partners.{pair_counts, sum_of_pair, norm_of_sum};
 ghost use Rattle.pottier.specs.Faults.{LimitOnly};
 
 use crate::BasisFault;
-use int_vectors::{VecFault, add, conforms, norm1};
+use int_vectors::{VecFault, add, norm1};
 use std::alloc::{AllocError, Global};
 
 /// Whether the pair counts: its vectors agree before the last entry, and clash there.
@@ -125,29 +123,6 @@ pub fn opposite(alloc: Global, z: &[i64]) -> Result<Vec<i64>, AllocError>
         turned.push(-*x)?;
     }
     Ok(turned)
-}
-
-/// Whether a member, with either sign, is conformally below `z`, whose opposite is `turned`.
-pub fn is_reducible(members: &[Vec<i64>], z: &[i64], turned: &[i64]) -> bool
-    requires opposites { turned.now ≡ vector.opposite z.now }
-    requires same { All (λ v. length v ≡ length z.now) (vectors members.now) }
-    ensures { MatchBool result (IsReducible (vectors members.now) z.now) (IsReducible (vectors members.now) z.now → ⊥) }
-{
-    for member in members {
-        if lies_below(member, z, turned) {
-            return true;
-        }
-    }
-    false
-}
-
-/// Whether the member, with either sign, is conformally below `z`, whose opposite is `turned`.
-fn lies_below(member: &[i64], z: &[i64], turned: &[i64]) -> bool
-    requires opposites { turned.now ≡ vector.opposite z.now }
-    requires same { length member.now ≡ length z.now }
-    ensures { result ≡ (vector.conforms member.now z.now || vector.conforms (vector.opposite member.now) z.now) }
-{
-    conforms(member, z) || conforms(member, turned)
 }
 
 /// Whether each entry is at most `2^31 - 1` in absolute value.

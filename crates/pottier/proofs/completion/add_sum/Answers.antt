@@ -15,7 +15,7 @@ returns-then-len-limit-clause-refused c =
     let vs = vectors c.args.members.now.items in
     let z = c.args.sum.items in
     let member = c.leading-member.result.items in
-    let none = not_reducible_same (vectors c.deref-2.result.now) vs c.deref-3.result.now z (ap vectors c.deref-2.ensures.value) c.deref-3.ensures.value c.if-is_reducible.ensures in
+    let none = not_reducible_same (vectors c.deref-2.result.now) vs c.deref-4.result.now z (ap vectors c.deref-2.ensures.value) c.deref-4.ensures.value c.if-is_reducible.ensures in
     let leads = c.leading-member.ensures.leads due.nonzero in
     elim c.then-len-limit.branch [
       | then-len-limit-via-then-len-limit w ↦
@@ -49,6 +49,6 @@ returns-clause-stage c =
     λ m at stage due.
     let vs = vectors c.args.members.now.items in
     let z = c.args.sum.items in
-    let none = not_reducible_same (vectors c.deref-2.result.now) vs c.deref-3.result.now z (ap vectors c.deref-2.ensures.value) c.deref-3.ensures.value c.if-is_reducible.ensures in
+    let none = not_reducible_same (vectors c.deref-2.result.now) vs c.deref-4.result.now z (ap vectors c.deref-2.ensures.value) c.deref-4.ensures.value c.if-is_reducible.ensures in
     subst (IsStage m at) (sym (vectors_push c.args.members.now.items c.push.new.self.items c.leading-member.result c.in_ok-push.ensures.items))
     (added_stage m at vs stage z c.leading-member.result.items due none c.leading-member.ensures.either (c.leading-member.ensures.leads due.nonzero))

@@ -1,66 +1,103 @@
-use Rattle.std.proofs.Common.{◌≡◌, ◌+◌, ◌∷◌, [], length, subst, arith}
+use Rattle.std.proofs.Common.{◌≡◌, ◌+◌, ◌≤◌, ◌<◌, ◌∷◌, [], ◌∙◌, length, map, ap, sym, subst, arith}
 use Rattle.std.specs.BinaryHeap.{IsHeap, heap_items}
 use Rattle.std.proofs.lemmas.List.{length-map}
 use Rattle.std.proofs.lemmas.List.Sorted.{length_permutation}
 use Rattle.std.proofs.lemmas.Result.{err_from_is_err_and}
+use Rattle.lattice_theory.specs.Matrices.{Matrix}
+use Rattle.lattice_laws.proofs.SlackBases.{IsReducible}
+use Rattle.lattice_laws.proofs.Completion.{CoversBelow}
 use Rattle.pottier.specs.Vectors.{vectors}
-use Rattle.pottier.specs.Queues.{pair_order, IsPairedUp}
+use Rattle.pottier.specs.Partners.{sum_of_pair}
+use Rattle.pottier.specs.Signs.{signs_of}
+use Rattle.pottier.specs.Stages.{AreMembers, AreFitting, IsStage}
+use Rattle.pottier.specs.Queues.{pair_order, first_of, second_of, IsPairOf, IsPairedUp}
 use Rattle.pottier.proofs.StageLaws.{grows_length}
-use Rattle.pottier.proofs.QueueLaws.{queue_started, queue_first, queue_next, queue_more, queue_ended, work_falls}
+use Rattle.pottier.proofs.QueueLaws.{pair_due, first_fits, first_due, queue_started, queue_first, queue_more, queue_ended, work_falls}
 use Rattle.pottier.proofs.completion.complete.Goals as goal
 
 pub loop-pair-init : goal.loop-pair-init
 loop-pair-init c =
     let es = heap_items c.pair_up.new.pairs in
-    let up = subst (λ hs. IsPairedUp c.args.at (vectors c.deref.result.now) 0 (length (vectors c.deref.result.now)) hs es) c.new-pairs.ensures.items c.in_ok-pair_up.ensures in
-    queue_started c.args.at c.args.limit (vectors c.args.members.now.items) es c.requires.fitting (subst (IsHeap pair_order) c.new-pairs.ensures.items c.new-pairs.ensures.heap_order)
-    (subst (λ ms. IsPairedUp c.args.at (vectors ms) 0 (length (vectors ms)) [] es) c.deref.ensures.value up)
+    let up = subst (λ hs. IsPairedUp c.args.at (vectors c.deref-2.result.now) 0 (length (vectors c.deref-2.result.now)) hs es) c.new-pairs.ensures.items c.in_ok-pair_up.ensures in
+    record {
+      queued = queue_started c.args.at c.args.limit (vectors c.args.members.now.items) es c.requires.fitting (subst (IsHeap pair_order) c.new-pairs.ensures.items c.new-pairs.ensures.heap_order)
+          (subst (λ ms. IsPairedUp c.args.at (vectors ms) 0 (length (vectors ms)) [] es) c.deref-2.ensures.value up);
+      signs = c.in_ok-signs.ensures ∙ ap (λ ms. map signs_of (vectors ms)) c.deref.ensures.value;
+    }
 
-pub settle-requires-clause-fitting : goal.settle-requires-clause-fitting
-settle-requires-clause-fitting c = c.loop-pair.invariant.fitting
+pub sum_of-requires-clause-members : goal.sum_of-requires-clause-members
+sum_of-requires-clause-members c = subst (AreMembers (c.args.at + 1)) (sym (ap vectors c.deref-in-Some.ensures.value)) c.loop-pair.invariant.queued.fitting.members
 
-pub settle-requires-clause-pair : goal.settle-requires-clause-pair
-settle-requires-clause-pair c =
-    queue_first c.args.at c.args.limit (vectors c.args.members.now.items) (heap_items c.loop-pair.pairs) (heap_items c.pop.new.self) (vectors c.loop-pair.members.items) c.in-Some.pair c.loop-pair.invariant c.in-Some.ensures.permutation
+pub sum_of-requires-clause-pair : goal.sum_of-requires-clause-pair
+sum_of-requires-clause-pair c =
+    subst (λ vs. IsPairOf c.args.at vs c.in-Some.pair) (sym (ap vectors c.deref-in-Some.ensures.value))
+    (queue_first c.args.at c.args.limit (vectors c.args.members.now.items) (heap_items c.loop-pair.pairs) (heap_items c.pop.new.self) (vectors c.loop-pair.members.items) c.in-Some.pair c.loop-pair.invariant.queued c.in-Some.ensures.permutation)
 
-pub returns-in_err-settle-clause-refused : goal.returns-in_err-settle-clause-refused
-returns-in_err-settle-clause-refused c =
+pub add_sum-requires-clause-fitting : goal.add_sum-requires-clause-fitting
+add_sum-requires-clause-fitting c =
+    let is = c.in_ok-sum.ensures.sum ∙ ap (λ ms. sum_of_pair c.args.at (first_of (vectors ms) c.in-Some.pair) (second_of (vectors ms) c.in-Some.pair)) c.deref-in-Some.ensures.value in
+    subst (λ n. AreFitting n c.args.limit (vectors c.loop-pair.members.items)) (sym (first_fits c.args.at c.args.limit (vectors c.args.members.now.items) (heap_items c.loop-pair.pairs) (heap_items c.pop.new.self) (vectors c.loop-pair.members.items) c.in-Some.pair c.in_ok-sum.sum.items c.loop-pair.invariant.queued c.in-Some.ensures.permutation is).0) c.loop-pair.invariant.queued.fitting
+
+pub add_sum-requires-clause-small : goal.add_sum-requires-clause-small
+add_sum-requires-clause-small c =
+    let is = c.in_ok-sum.ensures.sum ∙ ap (λ ms. sum_of_pair c.args.at (first_of (vectors ms) c.in-Some.pair) (second_of (vectors ms) c.in-Some.pair)) c.deref-in-Some.ensures.value in
+    (first_fits c.args.at c.args.limit (vectors c.args.members.now.items) (heap_items c.loop-pair.pairs) (heap_items c.pop.new.self) (vectors c.loop-pair.members.items) c.in-Some.pair c.in_ok-sum.sum.items c.loop-pair.invariant.queued c.in-Some.ensures.permutation is).1
+
+pub returns-in_err-add_sum-clause-refused : goal.returns-in_err-add_sum-clause-refused
+returns-in_err-add_sum-clause-refused c =
     λ m stage.
-    let below = queue_next m c.args.at c.args.limit (vectors c.args.members.now.items) (heap_items c.loop-pair.pairs) (heap_items c.pop.new.self) (vectors c.loop-pair.members.items) c.in-Some.pair
-    c.loop-pair.invariant c.in-Some.ensures.heap_order stage in
-    let e = err_from_is_err_and c.from_residual-in_err-settle.result c.from_residual-in_err-settle.ensures.1 in
-    rw (e.1, e.2) (c.in_err-settle.ensures.refused m (c.loop-pair.invariant.stage m stage) below)
+    let is = c.in_ok-sum.ensures.sum ∙ ap (λ ms. sum_of_pair c.args.at (first_of (vectors ms) c.in-Some.pair) (second_of (vectors ms) c.in-Some.pair)) c.deref-in-Some.ensures.value in
+    let due = first_due m c.args.at c.args.limit (vectors c.args.members.now.items) (heap_items c.loop-pair.pairs) (heap_items c.pop.new.self) (vectors c.loop-pair.members.items) c.in-Some.pair c.in_ok-sum.sum.items c.loop-pair.invariant.queued c.in-Some.ensures.permutation c.in-Some.ensures.heap_order is stage in
+    let e = err_from_is_err_and c.from_residual-in_err-add_sum.result c.from_residual-in_err-add_sum.ensures.1 in
+    rw (e.1, e.2) (c.in_err-add_sum.ensures.refused m c.args.at (c.loop-pair.invariant.queued.stage m stage) due)
+
+pub pair_up-requires-in-Some-clause-members : goal.pair_up-requires-in-Some-clause-members
+pair_up-requires-in-Some-clause-members c =
+    let is = c.in_ok-sum.ensures.sum ∙ ap (λ ms. sum_of_pair c.args.at (first_of (vectors ms) c.in-Some.pair) (second_of (vectors ms) c.in-Some.pair)) c.deref-in-Some.ensures.value in
+    let fits = subst (λ n. AreFitting n c.args.limit (vectors c.add_sum.new.members.items)) (first_fits c.args.at c.args.limit (vectors c.args.members.now.items) (heap_items c.loop-pair.pairs) (heap_items c.pop.new.self) (vectors c.loop-pair.members.items) c.in-Some.pair c.in_ok-sum.sum.items c.loop-pair.invariant.queued c.in-Some.ensures.permutation is).0 c.in_ok-add_sum.ensures.fitting in
+    subst (AreMembers (c.args.at + 1)) (sym (ap vectors c.deref-in-Some-2.ensures.value)) fits.members
 
 pub loop-pair-smaller : goal.loop-pair-smaller
 loop-pair-smaller c =
     let now = vectors c.loop-pair.members.items in
-    let later = vectors c.settle.new.members.items in
+    let later = vectors c.add_sum.new.members.items in
     let es = heap_items c.loop-pair.pairs in
     let rest = heap_items c.pop.new.self in
     let next = heap_items c.pair_up-in-Some.new.pairs in
+    let is = c.in_ok-sum.ensures.sum ∙ ap (λ ms. sum_of_pair c.args.at (first_of (vectors ms) c.in-Some.pair) (second_of (vectors ms) c.in-Some.pair)) c.deref-in-Some.ensures.value in
+    let fits = subst (λ n. AreFitting n c.args.limit later) (first_fits c.args.at c.args.limit (vectors c.args.members.now.items) (heap_items c.loop-pair.pairs) (heap_items c.pop.new.self) (vectors c.loop-pair.members.items) c.in-Some.pair c.in_ok-sum.sum.items c.loop-pair.invariant.queued c.in-Some.ensures.permutation is).0 c.in_ok-add_sum.ensures.fitting in
     let count : c.len-paired.result ≡ length now = omega (arith, c.len-paired.ensures, length-map c.loop-pair.members.items (λ v. v.items)) in
     let popped : length es ≡ length rest + 1 = omega (arith, length_permutation es (c.in-Some.pair ∷ rest) c.in-Some.ensures.permutation) in
-    let up = subst (λ ms. IsPairedUp c.args.at (vectors ms) c.len-paired.result (length (vectors ms)) rest next) c.deref-in-Some.ensures.value c.in_ok-pair_up-2.ensures in
-    work_falls c.args.limit (length now) (length later) (length es) (length rest) (length next) (grows_length now later c.in_ok-settle.ensures.grows) c.in_ok-settle.ensures.one c.in_ok-settle.ensures.fitting.short popped
+    let up = subst (λ ms. IsPairedUp c.args.at (vectors ms) c.len-paired.result (length (vectors ms)) rest next) c.deref-in-Some-2.ensures.value c.in_ok-pair_up-2.ensures in
+    work_falls c.args.limit (length now) (length later) (length es) (length rest) (length next) (grows_length now later c.in_ok-add_sum.ensures.grows) c.in_ok-add_sum.ensures.one fits.short popped
     (subst (λ n. IsPairedUp c.args.at later n (length later) rest next) count up).few
 
 pub loop-pair-preserved : goal.loop-pair-preserved
 loop-pair-preserved c =
     let now = vectors c.loop-pair.members.items in
-    let later = vectors c.settle.new.members.items in
+    let later = vectors c.add_sum.new.members.items in
     let es = heap_items c.loop-pair.pairs in
     let rest = heap_items c.pop.new.self in
     let next = heap_items c.pair_up-in-Some.new.pairs in
+    let is = c.in_ok-sum.ensures.sum ∙ ap (λ ms. sum_of_pair c.args.at (first_of (vectors ms) c.in-Some.pair) (second_of (vectors ms) c.in-Some.pair)) c.deref-in-Some.ensures.value in
+    let fits = subst (λ n. AreFitting n c.args.limit later) (first_fits c.args.at c.args.limit (vectors c.args.members.now.items) (heap_items c.loop-pair.pairs) (heap_items c.pop.new.self) (vectors c.loop-pair.members.items) c.in-Some.pair c.in_ok-sum.sum.items c.loop-pair.invariant.queued c.in-Some.ensures.permutation is).0 c.in_ok-add_sum.ensures.fitting in
     let count : c.len-paired.result ≡ length now = omega (arith, c.len-paired.ensures, length-map c.loop-pair.members.items (λ v. v.items)) in
-    let up = subst (λ ms. IsPairedUp c.args.at (vectors ms) c.len-paired.result (length (vectors ms)) rest next) c.deref-in-Some.ensures.value c.in_ok-pair_up-2.ensures in
-    queue_more c.args.at c.args.limit (vectors c.args.members.now.items) es rest next now later c.in-Some.pair c.loop-pair.invariant c.in-Some.ensures.permutation c.in-Some.ensures.heap_order
-    c.in_ok-settle.ensures.fitting c.in_ok-settle.ensures.grows c.in_ok-settle.ensures.reducible c.in_ok-settle.ensures.stage (subst (λ n. IsPairedUp c.args.at later n (length later) rest next) count up)
+    let up = subst (λ ms. IsPairedUp c.args.at (vectors ms) c.len-paired.result (length (vectors ms)) rest next) c.deref-in-Some-2.ensures.value c.in_ok-pair_up-2.ensures in
+    let step = λ (m : Matrix) (stage : IsStage m c.args.at now) (covers : CoversBelow m c.args.at c.in-Some.pair.norm.0 now).
+    c.in_ok-add_sum.ensures.stage m c.args.at stage
+    (pair_due m c.args.at now c.in-Some.pair c.in_ok-sum.sum.items stage (queue_first c.args.at c.args.limit (vectors c.args.members.now.items) (heap_items c.loop-pair.pairs) (heap_items c.pop.new.self) (vectors c.loop-pair.members.items) c.in-Some.pair c.loop-pair.invariant.queued c.in-Some.ensures.permutation) is covers) in
+    record {
+      queued = queue_more c.args.at c.args.limit (vectors c.args.members.now.items) es rest next now later c.in-Some.pair c.loop-pair.invariant.queued c.in-Some.ensures.permutation c.in-Some.ensures.heap_order
+          fits c.in_ok-add_sum.ensures.grows (subst (IsReducible later) is c.in_ok-add_sum.ensures.reducible) step
+          (subst (λ n. IsPairedUp c.args.at later n (length later) rest next) count up);
+      signs = c.in_ok-add_sum.ensures.signs;
+    }
 
 pub returns-clause-fitting : goal.returns-clause-fitting
-returns-clause-fitting c = c.loop-pair.invariant.fitting
+returns-clause-fitting c = c.loop-pair.invariant.queued.fitting
 
 pub returns-clause-completed : goal.returns-clause-completed
 returns-clause-completed c =
     λ m stage.
     let none : length (heap_items c.loop-pair.pairs) ≡ 0 = omega (arith, c.in_default.ensures.none) in
-    queue_ended m c.args.at c.args.limit (vectors c.args.members.now.items) (heap_items c.loop-pair.pairs) (vectors c.loop-pair.members.items) c.loop-pair.invariant none stage
+    queue_ended m c.args.at c.args.limit (vectors c.args.members.now.items) (heap_items c.loop-pair.pairs) (vectors c.loop-pair.members.items) c.loop-pair.invariant.queued none stage

@@ -1,0 +1,86 @@
+-- Laws of the words that hold the signs of a vector: those of a vector that lies below another fit.
+use Rattle.std.proofs.Common.{◌≡◌, ℕ, ◌+◌, ◌%◌, ◌^◌, ◌<◌, ◌≤◌, min, max, ℤ, pos, negsuc, zero, suc, int_lt, Bool, true, false, ◌&&◌, cond, List, [], ◌∷◌, ◌++◌, bit_and, bit_or, length, map, drop, get_or, refl, ap, arith, sym, ◌∙◌, subst, Vec, eq-eqb}
+use Rattle.std.specs.declared.alloc.Global.{Global}
+use Rattle.std.specs.Int.{bit_at}
+use Rattle.std.proofs.lemmas.Int.{ints}
+use Rattle.std.proofs.lemmas.Bool.Decides.{nat_tests}
+use Rattle.std.proofs.lemmas.List.{map_push, get_or-map, length-map}
+use Rattle.std.proofs.Math.Seq.{drop-cons}
+use Rattle.std.proofs.lemmas.Nat.Bits.{bit_at_and, bit_at_or, bit_at-zero, same_from_bits}
+use Rattle.lattice_theory.specs.Vectors.{Vector, ◌⊑◌, conforms, is_between}
+use Rattle.lattice_laws.proofs.Tests.{and_true, not_both}
+use Rattle.pottier.specs.declared.below.Signs.{Signs}
+use Rattle.pottier.specs.Vectors.{vectors}
+use Rattle.pottier.specs.Signs.{mark, marked, is_positive, is_negative, signs_of, is_within, fits}
+
+-- each bit of the first word is in the second
+abbrev IsPartOf : ℕ → ℕ → Type 0
+IsPartOf a b = (i : ℕ) → bit_at a i ≤ bit_at b i
+
+within_part : (a b : ℕ) → IsPartOf a b → is_within a b ≡ true
+within_part a b h = eq-eqb (bit_and a b) a (same_from_bits (bit_and a b) a (λ i. bit_at_and a b i ∙ least (bit_at a i) (bit_at b i) (h i)))
+  where
+    least : (m n : ℕ) → m ≤ n → min m n ≡ m
+    least m n low = omega arith
+
+or_part : (a b c d : ℕ) → IsPartOf a b → IsPartOf c d → IsPartOf (bit_or a c) (bit_or b d)
+or_part a b c d h k = λ i. omega (arith, bit_at_or a c i, bit_at_or b d i, h i, k i)
+
+mark_part : (s t : Bool) (at : ℕ) → (s ≡ true → t ≡ true) → IsPartOf (mark s at) (mark t at)
+mark_part true t at h = subst (λ u. IsPartOf (2 ^ (at % 64)) (mark u at)) (sym (h refl)) (λ i. omega arith)
+mark_part false t at h = λ i. omega (arith, bit_at-zero i)
+
+-- an entry between 0 and another has its sign or is 0
+positive_part : (a b : ℤ) → is_between a b ≡ true → is_positive a ≡ true → is_positive b ≡ true
+positive_part (pos a) (pos b) part up = grind (arith, nat_tests, ints)
+positive_part (pos a) (negsuc b) part up = grind (arith, nat_tests, ints)
+positive_part (negsuc a) b part up = grind (arith, nat_tests, ints)
+
+negative_part : (a b : ℤ) → is_between a b ≡ true → is_negative a ≡ true → is_negative b ≡ true
+negative_part (pos a) b part down = grind (arith, nat_tests, ints)
+negative_part (negsuc a) (pos b) part down = grind (arith, nat_tests, ints)
+negative_part (negsuc a) (negsuc b) part down = grind (arith, nat_tests, ints)
+
+module _ (test : ℤ → Bool) (passes : (a b : ℤ) → is_between a b ≡ true → test a ≡ true → test b ≡ true) where
+  marked_part : (v z : Vector) (a b at : ℕ) → v ⊑ z → IsPartOf a b → IsPartOf (marked test a at v) (marked test b at z)
+  marked_part [] [] a b at low h = h
+  marked_part [] (y ∷ z) a b at low h = absurd (cc)
+  marked_part (x ∷ v) [] a b at low h = absurd (cc)
+  marked_part (x ∷ v) (y ∷ z) a b at low h =
+      let p = and_true (is_between x y) (conforms v z) low in
+      marked_part v z (bit_or a (mark (test x) at)) (bit_or b (mark (test y) at)) (at + 1) p.1
+      (or_part a b (mark (test x) at) (mark (test y) at) h (mark_part (test x) (test y) at (passes x y p.0)))
+
+pub below_fits : (v z : Vector) → v ⊑ z → fits (signs_of v) (signs_of z) ≡ true
+below_fits v z low =
+    let none : IsPartOf 0 0 = λ i. omega arith in
+    both (within_part _ _ (marked_part is_positive positive_part v z 0 0 0 low none)) (within_part _ _ (marked_part is_negative negative_part v z 0 0 0 low none))
+  where
+    both : {s t : Bool} → s ≡ true → t ≡ true → (s && t) ≡ true
+    both {s} {t} e f = ap (λ b. b && t) e ∙ f
+
+-- a vector whose signs do not fit does not lie below
+pub apart : (v z : Vector) → fits (signs_of v) (signs_of z) ≡ false → conforms v z ≡ false
+apart v z h = by (conforms v z) refl
+  where
+    by : (b : Bool) → conforms v z ≡ b → b ≡ false
+    by true e = absurd (not_both _ (below_fits v z e) h)
+    by false e = refl
+
+-- one entry more is marked
+pub marked_more : (test : ℤ → Bool) (word at : ℕ) (z : Vector) → at < length z →
+    marked test (bit_or word (mark (test (get_or z at (pos 0))) at)) (at + 1) (drop (at + 1) z) ≡ marked test word at (drop at z)
+marked_more test word at z low =
+    let next : at + 1 ≡ suc at = omega arith in
+    ap (λ n. marked test (bit_or word (mark (test (get_or z at (pos 0))) at)) (at + 1) (drop n z)) next ∙ ap (marked test word at) (sym (drop-cons z at (pos 0) low))
+
+-- ---- the signs of members
+
+pub signs_push : (signs more : List Signs) (vs : List Vector) (v : Vector) (s : Signs) → signs ≡ map signs_of vs → more ≡ signs ++ s ∷ [] → s ≡ signs_of v → more ≡ map signs_of (vs ++ v ∷ [])
+signs_push signs more vs v s h e f = e ∙ (λ i. h i ++ f i ∷ []) ∙ sym (map_push signs_of vs v)
+
+pub member_signs : (members : List (Vec ℤ Global)) (signs : List Signs) (i : ℕ) (x : Vec ℤ Global) (now : Vector) (d : Signs) → signs ≡ map signs_of (vectors members) → i < length members →
+    x ≡ get_or members i x → now ≡ x.items → get_or signs i d ≡ signs_of now
+member_signs members signs i x now d h low e f =
+    ap (λ ss. get_or ss i d) h ∙ get_or-map signs_of (vectors members) i x.items d (omega (arith, low, length-map members (λ v. v.items)))
+    ∙ ap signs_of (get_or-map (λ v. v.items) members i x x.items low ∙ ap (λ y. y.items) (sym e) ∙ sym f)

@@ -1,0 +1,29 @@
+-- The places of the positive and of the negative entries of a vector, folded modulo 64 into two words.
+use Rattle.std.specs.Prelude.{ℕ, ℤ, pos, ◌+◌, ◌%◌, ◌^◌, ◌==◌, ◌&&◌, Bool, cond, List, [], ◌∷◌, bit_and, bit_or, int_lt}
+use Rattle.lattice_theory.specs.Vectors.{Vector}
+use Rattle.pottier.specs.declared.below.Signs.{Signs}
+
+-- the bit of a place, where it is to be set
+abbrev pub mark : Bool → ℕ → ℕ
+mark set at = cond set (2 ^ (at % 64)) 0
+
+-- a word with the bits of the places, counted from one on, of the entries that pass the test
+abbrev pub marked : (ℤ → Bool) → ℕ → ℕ → Vector → ℕ
+marked test word at [] = word
+marked test word at (x ∷ v) = marked test (bit_or word (mark (test x) at)) (at + 1) v
+
+abbrev pub is_positive : ℤ → Bool
+is_positive x = int_lt (pos 0) x
+
+abbrev pub is_negative : ℤ → Bool
+is_negative x = int_lt x (pos 0)
+
+abbrev pub signs_of : Vector → Signs
+signs_of v = record { up = marked is_positive 0 0 v; down = marked is_negative 0 0 v }
+
+-- no bit of the first word is missing in the second
+abbrev pub is_within : ℕ → ℕ → Bool
+is_within a b = bit_and a b == a
+
+abbrev pub fits : Signs → Signs → Bool
+fits a b = is_within a.up b.up && is_within a.down b.down
