@@ -6,7 +6,6 @@ use Rattle.lattice_theory.specs.Vectors.{Vector, same, opposite}
 use Rattle.lattice_theory.specs.SignedSums.{Sum}
 use Rattle.brick_sums.specs.Generators.{AreGenerators}
 use Rattle.brick_sums.specs.Places.{levels, width}
-use Rattle.brick_sums.specs.Levels.{front}
 
 -- ---- what one exchange of two gives
 
@@ -26,9 +25,6 @@ its_levels = refl
 
 pub its_width : width at_most_one ≡ 2
 its_width = refl
-
-pub its_front : front 1 at_most_one ≡ back ∷ there ∷ []
-its_front = refl
 
 -- ---- the exchanges among three are generators
 

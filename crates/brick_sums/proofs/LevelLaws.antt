@@ -1,37 +1,20 @@
 -- Laws of the sums of one more generator, while they are added one by one.
-use Rattle.std.proofs.Common.{◌≡◌, ℕ, zero, suc, ◌<◌, ◌≤◌, List, [], ◌∷◌, length, refl, ap, arith, sym, subst, ◌∙◌, ◌⊎◌, inl, inr, IsTrue}
-use Rattle.std.specs.List.{All, Contains, insert}
+use Rattle.std.proofs.Common.{◌≡◌, ℕ, suc, ◌<◌, ◌≤◌, List, ◌∷◌, length, refl, ap, arith, sym, subst, ◌∙◌, ◌⊎◌, inl, inr}
+use Rattle.std.specs.List.{All, Contains}
 use Rattle.std.proofs.lemmas.Bool.{cases_lt}
 use Rattle.std.proofs.lemmas.List.{length-map}
-use Rattle.std.proofs.lemmas.List.Elements.{All-contains, All-cons, All-from_recursion, recursion_from_All, All-weaker, All-map}
-use Rattle.std.proofs.lemmas.List.Sorted.{IsPermutation-map, IsPermutation-insert, Contains-permutation, All-permutation, length_permutation}
-use Rattle.lattice_theory.specs.Vectors.{Vector, add, sub, is_rising}
+use Rattle.std.proofs.lemmas.List.Elements.{All-contains, All-cons, All-weaker, All-map}
+use Rattle.std.proofs.lemmas.List.Sorted.{IsPermutation-map, Contains-permutation, All-permutation, length_permutation}
+use Rattle.lattice_theory.specs.Vectors.{Vector, add, sub}
 use Rattle.lattice_theory.specs.Matrices.{Matrix}
 use Rattle.lattice_theory.specs.SignedSums.{Sum, IsSignedSum, AreSums, ExceedsSumsOf, vectors}
 use Rattle.brick_sums.specs.declared.fault.SumsFault.{SumsFault}
 use Rattle.brick_sums.specs.declared.fault.SumsFault.TheVariants.{Limit, Memory}
-use Rattle.brick_sums.specs.Places.{IsGapFor}
 use Rattle.brick_sums.specs.Refusals.{IsSumsFault}
-use Rattle.brick_sums.specs.Levels.{front, IsOffered, IsSumUpTo, AreSumsSoFar, AreGrown, HasBoth, HasNeighbours}
-use Rattle.brick_sums.proofs.RisingLaws.{insert-is_rising, gap-lacks}
-use Rattle.brick_sums.proofs.SumLaws.{vectors-sum, front-sum, front-All, AreSums-stop, HasLevel-lacking}
+use Rattle.brick_sums.specs.Levels.{IsOffered, IsSumUpTo, AreLast, AreSumsSoFar, AreGrown, HasBoth, HasNeighbours}
+use Rattle.brick_sums.proofs.SumLaws.{vectors-sum, AreSums-stop, HasLevel-lacking}
 
 -- ---- one vector that is offered
-
--- a sum that comes into its gap is offered
-pub IsGapFor-offered : (s : Sum) (old new : List Sum) (i : ℕ) →
-    IsTrue (is_rising (vectors old)) → IsGapFor (vectors old) s.vector i → new ≡ insert old i s → IsOffered s old new
-IsGapFor-offered s old new i rising gap came = subst (IsOffered s old) (sym came) (record {
-  rising =
-      subst (λ us. IsTrue (is_rising us)) (sym (vectors-insert i old)) (insert-is_rising (vectors old) s.vector i rising gap);
-  either = inr (gap-lacks (vectors old) s.vector i gap, IsPermutation-insert old i s);
-})
-  where
-    vectors-insert : (i : ℕ) (sums : List Sum) → vectors (insert sums i s) ≡ insert (vectors sums) i s.vector
-    vectors-insert zero [] = refl
-    vectors-insert (suc i) [] = refl
-    vectors-insert zero (r ∷ sums) = refl
-    vectors-insert (suc i) (r ∷ sums) = ap (λ us. r.vector ∷ us) (vectors-insert i sums)
 
 -- the vector that was offered is there
 pub IsOffered-there : (s : Sum) (old new : List Sum) → IsOffered s old new → Contains (vectors new) s.vector
@@ -163,33 +146,22 @@ module _ (t : ℕ) (gens : List Vector) (level : ℕ) where
 
   -- ---- a level that is done
 
-  -- the front of all sums so far has sums of that very number of generators
-  pub AreSums-front : (sums : List Sum) → AreSums t gens level sums → All (IsSignedSum t gens level) (front level sums)
-  AreSums-front sums these =
-      let Reached : Sum → Type 0 = λ s. s.level ≡ level → IsSignedSum t gens level s.vector in
-      let each : All Reached sums =
-      All-weaker (IsSumUpTo t gens level) Reached (λ s known its. subst (λ n. IsSignedSum t gens n s.vector) its known.1.reached)
-      sums these.sound in
-      All-from_recursion (IsSignedSum t gens level) _
-      (front-All (IsSignedSum t gens level) level sums (recursion_from_All Reached sums each))
-
-  -- the sums of the front and each generator were offered: now all sums of one more generator are there
-  pub AreSums-next : (old new : List Sum) → AreSums t gens level old → AreGrown t gens level old new →
-      All (HasNeighbours gens new) (front level old) →
-      AreSums t gens (suc level) new
-  AreSums-next old new these grew done = record {
+  -- the sums of the last ones and each generator were offered: now all sums of one more generator are there
+  pub AreSums-next : (old new : List Sum) (last : List Vector) → AreSums t gens level old → AreLast t gens level old last → AreGrown t gens level old new →
+      All (HasNeighbours gens new) last → AreSums t gens (suc level) new
+  AreSums-next old new last these lasts grew done = record {
     rising = grew.so_far.rising;
     sound = grew.so_far.sound;
     complete = λ n w within sum. elim (cases_lt n (suc level)) [
       | inl below ↦ grew.kept w (these.complete n w (omega (arith, below)) sum)
-      | inr last ↦
-          let same : n ≡ suc level = omega (arith, within, last) in
+      | inr top ↦
+          let same : n ≡ suc level = omega (arith, within, top) in
           newest w (subst (λ m. IsSignedSum t gens m w) same sum)
     ];
   }
     where
-      -- the new list has both sums of a vector of the front and a generator
-      both : (before e : Vector) → Contains (front level old) before → Contains gens e → HasBoth new before e
+      -- the new list has both sums of one of the last vectors and a generator
+      both : (before e : Vector) → Contains last before → Contains gens e → HasBoth new before e
       both before e here generator =
           All-contains (HasBoth new before) gens e (All-contains (HasNeighbours gens new) _ before done here) generator
 
@@ -205,8 +177,8 @@ module _ (t : ℕ) (gens : List Vector) (level : ℕ) where
             | inl lower ↦ grew.kept w (these.complete (suc found.0.level) w lower (before, e, reached, generator, either))
             | inr same ↦
                 let its : found.0.level ≡ level = omega (arith, known.0, same) in
-                let here : Contains (front level old) before =
-                subst (Contains (front level old)) found.2 (front-sum level old found.0 its found.1) in
+                let here : Contains last before =
+                subst (Contains last) found.2 (All-contains (λ s. s.level ≡ level → Contains last s.vector) old found.0 lasts.all found.1 its) in
                 elim either [
                   | inl plus ↦ subst (Contains (vectors new)) (sym plus) (both before e here generator).0
                   | inr minus ↦ subst (Contains (vectors new)) (sym minus) (both before e here generator).1

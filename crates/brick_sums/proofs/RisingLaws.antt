@@ -1,6 +1,6 @@
--- Laws of rising lists of vectors: what a search finds in one, and what comes into its gaps.
+-- Laws of rising lists of vectors: what a search finds in one, and what has a gap in it.
 use Rattle.std.proofs.Common.{◌≡◌, ℕ, zero, suc, ◌<◌, ◌≤◌, ℤ, Bool, true, false, ◌&&◌, List, [], ◌∷◌, ◌++◌, length, take, drop, get_or, add-one, refl, ap, arith, sym, subst, ◌∙◌, inl, inr, IsTrue, Some, Result, Ok, Err, IfOk, IfErr}
-use Rattle.std.specs.List.{AllByRecursion, AllWithin, Contains, insert, slice_get}
+use Rattle.std.specs.List.{AllByRecursion, AllWithin, Contains, slice_get}
 use Rattle.std.specs.List.Sorted.{IsSearchInRange, IsBinarySearchResult}
 use Rattle.std.specs.Ordering.{int_cmp, is_lt, ordering_reverse, ordering_then}
 use Rattle.std.specs.Cmp.{IsTotalOrder}
@@ -19,6 +19,9 @@ use Rattle.brick_sums.specs.Places.{IsGapFor}
 
 lex_total : IsTotalOrder lex_cmp
 lex_total = lists_total int_cmp_total
+
+pub lex_same : (v : Vector) → lex_cmp v v ≡ Equal
+lex_same v = tied_itself lex_total v
 
 is_lt-Less : (o : Ordering) → is_lt o ≡ true → o ≡ Less
 is_lt-Less Less test = refl
@@ -70,9 +73,6 @@ both-true : (p q : Bool) → (p && q) ≡ true → (p ≡ true) × (q ≡ true)
 both-true true q both = (refl, both)
 both-true false q both = absurd (cc)
 
-true-both : (p q : Bool) → p ≡ true → q ≡ true → (p && q) ≡ true
-true-both p q first second = ap (λ b. b && q) first ∙ second
-
 -- what is less than v is less than all that v is less than
 less-than_all : (u v : Vector) (ws : List Vector) → IsTrue (lex_less u v) →
     AllByRecursion (λ w. IsTrue (lex_less v w)) ws → AllByRecursion (λ w. IsTrue (lex_less u w)) ws
@@ -87,24 +87,7 @@ is_rising-Rises (u ∷ v ∷ vs) rising =
     let rest : Rises (v ∷ vs) = is_rising-Rises (v ∷ vs) parts.1 in
     ((parts.0, less-than_all u v vs parts.0 rest.0), rest)
 
-pub Rises-is_rising : (vs : List Vector) → Rises vs → IsTrue (is_rising vs)
-Rises-is_rising [] rises = refl
-Rises-is_rising (v ∷ []) rises = refl
-Rises-is_rising (u ∷ v ∷ vs) rises = true-both _ _ rises.0.0 (Rises-is_rising (v ∷ vs) rises.1)
-
--- ---- what comes into a gap
-
-AllByRecursion-between : (P : Vector → Type 0) (us ws : List Vector) (v : Vector) → AllByRecursion P (us ++ ws) →
-    P v → AllByRecursion P (us ++ v ∷ ws)
-AllByRecursion-between P [] ws v all here = (here, all)
-AllByRecursion-between P (u ∷ us) ws v all here = (all.0, AllByRecursion-between P us ws v all.1 here)
-
-Rises-between : (us ws : List Vector) (v : Vector) → Rises (us ++ ws) →
-    AllByRecursion (λ u. IsTrue (lex_less u v)) us → AllByRecursion (λ w. IsTrue (lex_less v w)) ws →
-    Rises (us ++ v ∷ ws)
-Rises-between [] ws v rises before behind = (behind, rises)
-Rises-between (u ∷ us) ws v rises before behind =
-    (AllByRecursion-between (λ w. IsTrue (lex_less u w)) us ws v rises.0 before.0, Rises-between us ws v rises.1 before.1 behind)
+-- ---- the gap for a vector
 
 -- what holds below a place holds of each vector taken up to there, and what holds from it on, of each behind it
 AllWithin-take : (P : Vector → Type 0) (us : List Vector) (i : ℕ) → i ≤ length us → AllWithin P us 0 i →
@@ -130,13 +113,6 @@ gap-before us v i gap = AllWithin-take (λ u. IsTrue (lex_less u v)) us i gap.wi
 
 gap-behind : (us : List Vector) (v : Vector) (i : ℕ) → IsGapFor us v i → AllByRecursion (λ u. IsTrue (lex_less v u)) (drop i us)
 gap-behind us v i gap = AllWithin-drop (λ u. IsTrue (lex_less v u)) us i gap.behind
-
--- a vector that comes into its gap keeps the list rising
-pub insert-is_rising : (us : List Vector) (v : Vector) (i : ℕ) → IsTrue (is_rising us) → IsGapFor us v i →
-    IsTrue (is_rising (insert us i v))
-insert-is_rising us v i rising gap =
-    Rises-is_rising _ (Rises-between (take i us) (drop i us) v
-    (subst Rises (sym (take-append-drop i us)) (is_rising-Rises us rising)) (gap-before us v i gap) (gap-behind us v i gap))
 
 -- a vector that has a gap is not in the list
 pub gap-lacks : (us : List Vector) (v : Vector) (i : ℕ) → IsGapFor us v i → Contains us v → ⊥

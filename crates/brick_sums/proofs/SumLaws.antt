@@ -1,17 +1,15 @@
 -- Laws of signed sums: their width, their size and their levels.
-use Rattle.std.proofs.Common.{◌≡◌, ℕ, zero, suc, ◌+◌, ◌*◌, ◌^◌, ◌<◌, ◌≤◌, ℤ, pos, unsigned_abs, Bool, true, false, List, [], ◌∷◌, length, map, filter, get_or, cond, refl, ap, arith, sym, subst, ◌∙◌, inl, inr, Some, slice_get, take, option_map, Vec, Global}
-use Rattle.std.specs.Prelude.{nat_eq}
+use Rattle.std.proofs.Common.{◌≡◌, ℕ, zero, suc, ◌+◌, ◌*◌, ◌^◌, ◌<◌, ◌≤◌, pos, unsigned_abs, List, [], ◌∷◌, length, map, get_or, refl, ap, arith, sym, subst, ◌∙◌, inl, inr, Some, slice_get, take, option_map}
 use Rattle.std.specs.List.{AllByRecursion, All, Contains}
 use Rattle.std.proofs.lemmas.Int.{ints}
 use Rattle.std.proofs.lemmas.Bool.{cases_lt}
-use Rattle.std.proofs.lemmas.Bool.Decides.{nat_tests}
 use Rattle.std.proofs.lemmas.List.{length-replicate}
 use Rattle.std.proofs.lemmas.Option.{slice_get_within, get_or_from_slice_get, slice_get-map, slice_get_read}
 use Rattle.std.proofs.lemmas.List.Elements.{All-more, All-contains, All-from_recursion, recursion_from_All, All-weaker}
 use Rattle.lattice_theory.specs.Vectors.{Vector, add, sub, zeros}
 use Rattle.lattice_theory.specs.BasisLimits.{IsNarrow}
 use Rattle.lattice_theory.specs.SignedSums.{Sum, IsSignedSum, HasLevel, AreSums, vectors}
-use Rattle.brick_sums.specs.Levels.{front, IsSumUpTo}
+use Rattle.brick_sums.specs.Levels.{IsSumUpTo}
 
 -- ---- lists
 
@@ -55,48 +53,6 @@ sum-vectors (r ∷ sums) s (zero, within, read) = (0, omega arith, ap (λ (q : S
 sum-vectors (r ∷ sums) s (suc k, within, read) =
     let found : Contains (vectors sums) s.vector = sum-vectors sums s (k, omega arith, read) in
     (suc found.0, omega (arith, found.1), found.2)
-
-abbrev of_level : ℕ → List Sum → List Sum
-of_level level sums = filter (λ s. nat_eq s.level level) sums
-
--- a listed sum of this level is in the front
-pub front-sum : (level : ℕ) (sums : List Sum) (s : Sum) → s.level ≡ level → Contains sums s →
-    Contains (front level sums) s.vector
-front-sum level [] s its (k, within, read) = absurd (omega arith)
-front-sum level (r ∷ sums) s its (zero, within, read) =
-    let same : nat_eq r.level level ≡ true = grind (arith, nat_tests, ap (λ (q : Sum). q.level) read) in
-    here (nat_eq r.level level) same
-  where
-    here : (b : Bool) → b ≡ true →
-        Contains (vectors (cond b (r ∷ of_level level sums) (of_level level sums))) s.vector
-    here true same = (0, omega arith, ap (λ (q : Sum). q.vector) read)
-    here false same = absurd (cc)
-front-sum level (r ∷ sums) s its (suc k, within, read) =
-    behind (front-sum level sums s its (k, omega arith, read)) (nat_eq r.level level)
-  where
-    behind : Contains (front level sums) s.vector → (b : Bool) →
-        Contains (vectors (cond b (r ∷ of_level level sums) (of_level level sums))) s.vector
-    behind found true = (suc found.0, omega (arith, found.1), found.2)
-    behind found false = found
-
--- what holds of each listed sum of this level holds of each vector in the front
-pub front-All : (P : Vector → Type 0) (level : ℕ) (sums : List Sum) →
-    AllByRecursion (λ s. s.level ≡ level → P s.vector) sums → AllByRecursion P (front level sums)
-front-All P level [] all = tt
-front-All P level (s ∷ sums) all = by (nat_eq s.level level) refl (front-All P level sums all.1)
-  where
-    by : (b : Bool) → nat_eq s.level level ≡ b → AllByRecursion P (front level sums) →
-        AllByRecursion P (vectors (cond b (s ∷ of_level level sums) (of_level level sums)))
-    by true same rest = let its : s.level ≡ level = grind (arith, nat_tests) in (all.0 its, rest)
-    by false other rest = rest
-
--- what was read of copies of the front
-pub front-read : (level : ℕ) (sums : List Sum) (copies : List (Vec ℤ Global)) (i : ℕ) (copy : Vec ℤ Global) →
-    map (λ v. v.items) copies ≡ front level sums →
-    i < length copies → copy ≡ get_or copies i copy → slice_get (front level sums) i ≡ Some copy.items
-front-read level sums copies i copy same within read =
-    subst (λ us. slice_get us i ≡ Some copy.items) same
-    (slice_get-map_read (λ (v : Vec ℤ Global). v.items) copies i copy within read)
 
 -- ---- the width of sums
 
