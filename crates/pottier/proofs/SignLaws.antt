@@ -1,5 +1,5 @@
 -- Laws of the words that hold the signs of a vector: those of a vector that lies below another fit.
-use Rattle.std.proofs.Common.{◌≡◌, ℕ, ◌+◌, ◌%◌, ◌^◌, ◌<◌, ◌≤◌, min, max, ℤ, pos, negsuc, zero, suc, int_lt, Bool, true, false, ◌&&◌, cond, List, [], ◌∷◌, ◌++◌, bit_and, bit_or, length, map, drop, get_or, refl, ap, arith, sym, ◌∙◌, subst, Vec, eq-eqb}
+use Rattle.std.proofs.Common.{◌≡◌, ℕ, ◌+◌, ◌%◌, ◌^◌, ◌<◌, ◌≤◌, min, ℤ, pos, negsuc, suc, Bool, true, false, ◌&&◌, List, [], ◌∷◌, ◌++◌, bit_and, bit_or, length, map, drop, get_or, refl, ap, arith, sym, ◌∙◌, subst, Vec, eq-eqb}
 use Rattle.std.specs.declared.alloc.Global.{Global}
 use Rattle.std.specs.Int.{bit_at}
 use Rattle.std.proofs.lemmas.Int.{ints}

@@ -1,5 +1,5 @@
 -- The places of the positive and of the negative entries of a vector, folded modulo 64 into two words.
-use Rattle.std.specs.Prelude.{ℕ, ℤ, pos, ◌+◌, ◌%◌, ◌^◌, ◌==◌, ◌&&◌, Bool, cond, List, [], ◌∷◌, bit_and, bit_or, int_lt}
+use Rattle.std.specs.Prelude.{ℕ, ℤ, pos, ◌+◌, ◌%◌, ◌^◌, ◌==◌, ◌&&◌, Bool, cond, [], ◌∷◌, bit_and, bit_or, int_lt}
 use Rattle.lattice_theory.specs.Vectors.{Vector}
 use Rattle.pottier.specs.declared.below.Signs.{Signs}
 

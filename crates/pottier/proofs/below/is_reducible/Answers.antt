@@ -1,11 +1,9 @@
-use Rattle.std.proofs.Common.{◌≡◌, ◌∙◌, ◌||◌, true, false, ap, sym, subst, length, take, arith}
-use Rattle.std.proofs.lemmas.List.{length-map}
+use Rattle.std.proofs.Common.{◌≡◌, ◌∙◌, ap, sym, subst, length, take}
 use Rattle.std.proofs.lemmas.List.Elements.{All-contains}
-use Rattle.lattice_theory.specs.Vectors.{Vector, opposite, conforms}
+use Rattle.lattice_theory.specs.Vectors.{Vector, conforms}
 use Rattle.lattice_laws.proofs.Conformal.{length-opposite}
 use Rattle.lattice_laws.proofs.SlackBases.{IsReducible}
 use Rattle.pottier.specs.Vectors.{vectors}
-use Rattle.pottier.specs.Signs.{signs_of}
 use Rattle.pottier.proofs.PairLaws.{reducible_as, reducible_turned, none_reducible, not_reducible_push, not_below, vectors_more, vectors_all, vectors_at}
 use Rattle.pottier.proofs.SignLaws.{member_signs}
 use Rattle.pottier.proofs.below.is_reducible.Goals as goal

@@ -1,5 +1,4 @@
-use Rattle.std.proofs.Common.{◌≡◌, ◌∙◌, false, ap, sym}
-use Rattle.lattice_theory.specs.Vectors as vector
+use Rattle.std.proofs.Common.{◌≡◌, ◌∙◌, false, sym}
 use Rattle.pottier.specs.Signs as words
 use Rattle.pottier.proofs.SignLaws.{apart}
 use Rattle.pottier.proofs.below.lies_below.Goals as goal

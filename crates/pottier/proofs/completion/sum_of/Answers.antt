@@ -1,7 +1,3 @@
-use Rattle.std.proofs.Common.{IfOk, sym, subst, Vec, ℤ}
-use Rattle.std.specs.declared.alloc.Global.{Global}
-use Rattle.lattice_theory.specs.Vectors.{Vector}
-use Rattle.pottier.specs.Partners.{sum_of_pair}
 use Rattle.pottier.proofs.QueueLaws.{member_is}
 use Rattle.pottier.proofs.completion.sum_of.Goals as goal
 
