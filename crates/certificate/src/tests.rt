@@ -14,6 +14,11 @@ fn fault_of(alloc: Global, text: &[u8]) -> Option<CertFault> {
     parse(alloc, text).err()
 }
 
+/// Whether the text is refused at this byte for this kind.
+fn is_refused(alloc: Global, text: &[u8], at: usize, kind: CertKind) -> bool {
+    fault_of(alloc, text) == Some(CertFault { at, kind })
+}
+
 #[test]
 fn prints_line_by_line(rt: HostRuntime) -> Result<(), Fail> {
     let alloc = rt.alloc();
@@ -67,85 +72,116 @@ fn a_text_that_is_cut_ends_early(rt: HostRuntime) {
 
 #[test]
 fn names_the_first_fault_of_a_word_or_a_size(rt: HostRuntime) {
-    let cases = [
-        (b"nfold-certificate 01 claim".as_slice(), 18, CertKind::Word),
-        (b"nfold-certificate +1 claim".as_slice(), 18, CertKind::Word),
-        (
-            b"nfold-certificate 1 claim feasible".as_slice(),
+    let alloc = rt.alloc();
+    assert!(rt; is_refused(alloc, b"nfold-certificate 01 claim", 18, CertKind::Word));
+    assert!(rt; is_refused(alloc, b"nfold-certificate +1 claim", 18, CertKind::Word));
+    assert!(rt;
+        is_refused(
+            alloc,
+            b"nfold-certificate 1 claim feasible",
             26,
-            CertKind::Word,
-        ),
-        (
-            b"nfold-certificate 1 claim infeasible-brick -1".as_slice(),
+            CertKind::Word
+        )
+    );
+    assert!(rt;
+        is_refused(
+            alloc,
+            b"nfold-certificate 1 claim infeasible-brick -1",
             43,
-            CertKind::NotNumber,
-        ),
-        (
-            b"nfold-certificate 1 claim infeasible-brick 10001".as_slice(),
+            CertKind::NotNumber
+        )
+    );
+    assert!(rt;
+        is_refused(
+            alloc,
+            b"nfold-certificate 1 claim infeasible-brick 10001",
             43,
-            CertKind::TooBig,
-        ),
-        (
-            b"nfold-certificate 1 claim infeasible-brick 1 point 10001".as_slice(),
+            CertKind::TooBig
+        )
+    );
+    assert!(rt;
+        is_refused(
+            alloc,
+            b"nfold-certificate 1 claim infeasible-brick 1 point 10001",
             51,
-            CertKind::TooMany,
-        ),
-        (
-            b"nfold-certificate 1 claim infeasible-brick 1 point 1 33".as_slice(),
+            CertKind::TooMany
+        )
+    );
+    assert!(rt;
+        is_refused(
+            alloc,
+            b"nfold-certificate 1 claim infeasible-brick 1 point 1 33",
             53,
-            CertKind::TooMany,
-        ),
-        (
-            b"nfold-certificate 1 claim infeasible-brick 1 point 1 -1".as_slice(),
+            CertKind::TooMany
+        )
+    );
+    assert!(rt;
+        is_refused(
+            alloc,
+            b"nfold-certificate 1 claim infeasible-brick 1 point 1 -1",
             53,
-            CertKind::NotNumber,
-        ),
-    ];
-    for (text, at, kind) in cases {
-        assert_eq!(rt; fault_of(rt.alloc(), text), Some(CertFault { at, kind }));
-    }
+            CertKind::NotNumber
+        )
+    );
 }
 
 #[test]
 fn names_the_first_fault_of_what_follows(rt: HostRuntime) {
-    let cases = [
-        (
-            b"nfold-certificate 1 claim infeasible-brick 1 point 1 1 x".as_slice(),
+    let alloc = rt.alloc();
+    assert!(rt;
+        is_refused(
+            alloc,
+            b"nfold-certificate 1 claim infeasible-brick 1 point 1 1 x",
             55,
-            CertKind::NotNumber,
-        ),
-        (
-            b"nfold-certificate 1 claim infeasible-brick 1 point 1 1 4611686018427387905".as_slice(),
+            CertKind::NotNumber
+        )
+    );
+    assert!(rt;
+        is_refused(
+            alloc,
+            b"nfold-certificate 1 claim infeasible-brick 1 point 1 1 4611686018427387905",
             55,
-            CertKind::TooBig,
-        ),
-        (
-            b"nfold-certificate 1 claim infeasible-brick 1 point 0 1 bricks 2001".as_slice(),
+            CertKind::TooBig
+        )
+    );
+    assert!(rt;
+        is_refused(
+            alloc,
+            b"nfold-certificate 1 claim infeasible-brick 1 point 0 1 bricks 2001",
             62,
-            CertKind::TooMany,
-        ),
-        (
-            b"nfold-certificate 1 claim infeasible-brick 1 point 0 1 bricks 1 49".as_slice(),
+            CertKind::TooMany
+        )
+    );
+    assert!(rt;
+        is_refused(
+            alloc,
+            b"nfold-certificate 1 claim infeasible-brick 1 point 0 1 bricks 1 49",
             64,
-            CertKind::TooMany,
-        ),
-        (
-            b"nfold-certificate 1 claim infeasible-brick 1 point 0 1 bricks 1 1 -2147483648".as_slice(),
+            CertKind::TooMany
+        )
+    );
+    assert!(rt;
+        is_refused(
+            alloc,
+            b"nfold-certificate 1 claim infeasible-brick 1 point 0 1 bricks 1 1 -2147483648",
             66,
-            CertKind::TooBig,
-        ),
-        (
-            b"nfold-certificate 1 claim infeasible-brick 1 point 0 1 links".as_slice(),
+            CertKind::TooBig
+        )
+    );
+    assert!(rt;
+        is_refused(
+            alloc,
+            b"nfold-certificate 1 claim infeasible-brick 1 point 0 1 links",
             55,
-            CertKind::Word,
-        ),
-        (
-            b"nfold-certificate 1 claim infeasible-brick 1 point 0 1 bricks 0 1 end end".as_slice(),
+            CertKind::Word
+        )
+    );
+    assert!(rt;
+        is_refused(
+            alloc,
+            b"nfold-certificate 1 claim infeasible-brick 1 point 0 1 bricks 0 1 end end",
             70,
-            CertKind::Extra,
-        ),
-    ];
-    for (text, at, kind) in cases {
-        assert_eq!(rt; fault_of(rt.alloc(), text), Some(CertFault { at, kind }));
-    }
+            CertKind::Extra
+        )
+    );
 }

@@ -97,15 +97,11 @@ mod tests {
 
     #[test]
     fn each_file_has_a_suffix_of_its_own(rt: HostRuntime) {
-        for (kind, suffix) in [
-            (FileKind::Link, ".link.mat"),
-            (FileKind::Lower, ".lb"),
-            (FileKind::Right, ".rhs"),
-            (FileKind::Relations, ".rel"),
-            (FileKind::Cert, ".cert"),
-            (FileKind::Plain, ".mat"),
-        ] {
-            assert_eq!(rt; kind.suffix(), suffix);
-        }
+        assert_eq!(rt; FileKind::Link.suffix(), ".link.mat");
+        assert_eq!(rt; FileKind::Lower.suffix(), ".lb");
+        assert_eq!(rt; FileKind::Right.suffix(), ".rhs");
+        assert_eq!(rt; FileKind::Relations.suffix(), ".rel");
+        assert_eq!(rt; FileKind::Cert.suffix(), ".cert");
+        assert_eq!(rt; FileKind::Plain.suffix(), ".mat");
     }
 }

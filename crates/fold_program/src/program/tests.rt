@@ -154,40 +154,57 @@ fn its_sizes_and_sides_are_those_of_the_parts(rt: HostRuntime) -> Result<(), Fai
 }
 
 #[test]
-fn a_brick_is_judged_by_its_bounds_and_its_row(rt: HostRuntime) -> Result<(), Fail> {
+fn a_brick_has_its_rows_of_bounds_and_sides(rt: HostRuntime) -> Result<(), Fail> {
     let program = program(rt.alloc())?;
     assert_eq!(rt; program.n(), 2);
-    assert_eq!(rt; program.t(), 2);
     assert_eq!(rt; program.lower_row(1), [0, 0].as_slice());
     assert_eq!(rt; program.upper_row(2), [4, 4].as_slice());
     assert_eq!(rt; program.right_row(2), [4].as_slice());
-    for (vector, within, residual) in [
-        ([0, 4], true, 0),
-        ([4, 4], true, 4),
-        ([0, 0], true, 4),
-        ([5, -1], false, 0),
-        ([-3, -3], false, 10),
-    ] {
-        assert_eq!(rt; program.is_within(2, vector.as_slice()), within);
-        assert_eq!(rt; program.residual(2, vector.as_slice()), residual);
-    }
     Ok(())
+}
+
+/// Whether the vector is within the bounds of brick 2, and what it misses of its rows.
+fn judged_brick(alloc: Global, vector: [i64; 2]) -> Result<(bool, u128), Fail> {
+    let program = program(alloc)?;
+    if program.n() != 2 || program.t() != 2 {
+        return Err("two bricks of two columns")?;
+    }
+    let vector = vector.as_slice();
+    Ok((program.is_within(2, vector), program.residual(2, vector)))
+}
+
+#[test]
+fn a_brick_is_judged_by_its_bounds_and_its_row(rt: HostRuntime) -> Result<(), Fail> {
+    let alloc = rt.alloc();
+    assert_eq!(rt; judged_brick(alloc, [0, 4])?, (true, 0));
+    assert_eq!(rt; judged_brick(alloc, [4, 4])?, (true, 4));
+    assert_eq!(rt; judged_brick(alloc, [0, 0])?, (true, 4));
+    assert_eq!(rt; judged_brick(alloc, [5, -1])?, (false, 0));
+    assert_eq!(rt; judged_brick(alloc, [-3, -3])?, (false, 10));
+    Ok(())
+}
+
+/// What the point with these entries breaks first.
+fn broken_at(alloc: Global, entries: [i64; 4]) -> Result<Option<Broken>, Fail> {
+    let program = program(alloc)?;
+    let point = point(&program, entries.to_vec(alloc)?).ok_or("a point")?;
+    Ok(program.broken(&point))
 }
 
 #[test]
 fn the_first_thing_that_a_point_breaks_is_named(rt: HostRuntime) -> Result<(), Fail> {
-    let program = program(rt.alloc())?;
-    for (entries, broken) in [
-        ([1, 3, 2, 2], None),
-        ([1, 3, 2, 1], Some(Broken::BrickRow { brick: 2, row: 1 })),
-        ([0, 4, 2, 2], Some(Broken::LinkRow { row: 1 })),
-        ([5, -1, 2, 2], Some(Broken::Above { brick: 1, col: 1 })),
-        ([1, 3, 5, -1], Some(Broken::Above { brick: 2, col: 1 })),
-        ([1, 3, 2, -1], Some(Broken::Below { brick: 2, col: 2 })),
-    ] {
-        let point = point(&program, entries.to_vec(rt.alloc())?).expect(&rt, "a point");
-        assert_eq!(rt; program.broken(&point), broken);
-    }
+    let alloc = rt.alloc();
+    assert_eq!(rt; broken_at(alloc, [1, 3, 2, 2])?, None);
+    let row = Broken::BrickRow { brick: 2, row: 1 };
+    assert_eq!(rt; broken_at(alloc, [1, 3, 2, 1])?, Some(row));
+    let link = Broken::LinkRow { row: 1 };
+    assert_eq!(rt; broken_at(alloc, [0, 4, 2, 2])?, Some(link));
+    let above = Broken::Above { brick: 1, col: 1 };
+    assert_eq!(rt; broken_at(alloc, [5, -1, 2, 2])?, Some(above));
+    let above = Broken::Above { brick: 2, col: 1 };
+    assert_eq!(rt; broken_at(alloc, [1, 3, 5, -1])?, Some(above));
+    let below = Broken::Below { brick: 2, col: 2 };
+    assert_eq!(rt; broken_at(alloc, [1, 3, 2, -1])?, Some(below));
     Ok(())
 }
 
