@@ -1,5 +1,6 @@
 pub mod FactorLaws
 pub mod PointLaws
 pub mod StepLaws
+pub mod MenuLaws
 pub mod RoundLaws
 pub mod RunLaws

@@ -5,6 +5,7 @@
 #![tactic(auto)]
 
 mod factor;
+mod menus;
 mod points;
 mod records;
 mod rounds;

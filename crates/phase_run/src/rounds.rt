@@ -5,8 +5,10 @@ ghost use Rattle.run_theory.specs.Starts.{IsStart};
 ghost use Rattle.run_theory.specs.Folds.{HasBrickSums};
 ghost use Rattle.run_theory.specs.Bests.{IsRuleStep};
 ghost use Rattle.rule_laws.specs.BestUpTo.{kept_key};
+ghost use Rattle.phase_run.specs.Menus.{AreRunMenus};
 
-use brick_dp::{Bound, Fold, Key, Moves, Step, StepAnswer, best_step};
+use crate::menus::RunMenus;
+use brick_dp::{Bound, Fold, Key, Step, StepAnswer};
 use fold_program::Point;
 use std::alloc::{AllocError, Global};
 use step_lengths::count;
@@ -35,21 +37,22 @@ impl Bound for Kept {
 }
 
 /// The rule's step from a point: of all steps that lower the phase cost the one with the least cost after it, then the
-/// least length, then the least move. None where no step lowers it.
+/// least length, then the least move. None where no step lowers it. The menus are those of the point.
 pub(crate) fn rule_step(
     alloc: Global,
     fold: &Fold,
+    menus: &RunMenus,
     point: &Point,
 ) -> Result<Option<Step>, AllocError>
     requires sums { HasBrickSums fold.now }
+    requires menus { AreRunMenus fold.now point.now menus.now }
     requires start { IsStart fold.now.program fold.now.phase point.now }
     ensures { IfOk result (IsRuleStep fold.now point.now) }
 {
     let mut best = None;
     for k in 0..count(fold.program().widest()) {
         let mut bound = Kept { key: key_of(&best) };
-        let mut moves = Moves::new();
-        match best_step(alloc, fold, point, k, &mut bound, &mut moves)? {
+        match menus.best_step(alloc, fold, point, k, &mut bound)? {
             StepAnswer::Found(step) => best = Some(step),
             StepAnswer::Beaten => {}
         }

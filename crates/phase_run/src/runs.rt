@@ -8,6 +8,7 @@ ghost use Rattle.run_theory.specs.Starts.{IsStart};
 ghost use Rattle.run_theory.specs.Folds.{HasBrickSums};
 
 use crate::factor::bound_number;
+use crate::menus::RunMenus;
 use crate::points::{cost_in_phase, stepped};
 use crate::records::{End, RunRecord};
 use crate::rounds::rule_step;
@@ -42,10 +43,13 @@ pub fn run<R: Threads + Sync, G: Gate>(
     let before = cost_in_phase(fold, &point);
     let mut after = before;
     let mut point = point;
+    let mut menus = RunMenus::new(alloc, fold, &point)?;
     let mut steps = Vec::new(alloc);
-    while let Some(step) = rule_step(alloc, fold, &point)? {
-        point = stepped(alloc, fold, &point, &step)?;
-        after = cost_in_phase(fold, &point);
+    while let Some(step) = rule_step(alloc, fold, &menus, &point)? {
+        let next = stepped(alloc, fold, &point, &step)?;
+        after = cost_in_phase(fold, &next);
+        menus.follow(alloc, fold, &point, &next)?;
+        point = next;
         steps.push(step)?;
     }
     Ok(End {

@@ -15,7 +15,7 @@ cost_in_phase-after-requires g c =
     let y = c.loop-steps.point in
     let program : IsProgram f.program = subst IsProgram c.program.ensures c.n.ensures.program in
     let rule : IsRuleStep f y (Some c.in-Some.step) = subst (IsRuleStep f y) c.in-Some.is c.in_ok-step.ensures in
-    (run_more f x y c.in_ok-point.point c.loop-steps.steps.items _ c.in-Some.step program c.requires.sums c.loop-steps.invariant.so_far rule c.in_ok-point.ensures refl).start
+    (run_more f x y c.in_ok-next.next c.loop-steps.steps.items _ c.in-Some.step program c.requires.sums c.loop-steps.invariant.so_far rule c.in_ok-next.ensures refl).start
 
 pub loop-steps-smaller : goal.loop-steps-smaller
 loop-steps-smaller g c =
@@ -24,7 +24,7 @@ loop-steps-smaller g c =
     let y = c.loop-steps.point in
     let program : IsProgram f.program = subst IsProgram c.program.ensures c.n.ensures.program in
     let rule : IsRuleStep f y (Some c.in-Some.step) = subst (IsRuleStep f y) c.in-Some.is c.in_ok-step.ensures in
-    let lower = step_lowers f y c.in_ok-point.point c.in-Some.step rule c.in_ok-point.ensures in
+    let lower = step_lowers f y c.in_ok-next.next c.in-Some.step rule c.in_ok-next.ensures in
     let after : FitsSigned w128 c.cost_in_phase-after.result = search rules in
     let now : FitsSigned w128 (to_z w128 c.loop-steps.after-bits) = search rules in
     let less : c.cost_in_phase-after.result <ℤ to_z w128 c.loop-steps.after-bits = omega (arith, ints, lower, c.cost_in_phase-after.ensures, c.loop-steps.invariant.cost) in
@@ -40,8 +40,9 @@ loop-steps-preserved g c =
     let after : FitsSigned w128 c.cost_in_phase-after.result = search rules in
     record {
       so_far =
-          run_more f x y c.in_ok-point.point c.loop-steps.steps.items c.push.new.self.items c.in-Some.step program c.requires.sums c.loop-steps.invariant.so_far rule
-          c.in_ok-point.ensures c.in_ok-push.ensures.items;
+          run_more f x y c.in_ok-next.next c.loop-steps.steps.items c.push.new.self.items c.in-Some.step program c.requires.sums c.loop-steps.invariant.so_far rule
+          c.in_ok-next.ensures c.in_ok-push.ensures.items;
+      menus = c.in_ok-follow.ensures;
       cost = simp to_z-of_z c.cost_in_phase-after.ensures;
     }
 
