@@ -1,5 +1,7 @@
 -- What a move reaches, and what it offers.
-use Rattle.std.proofs.Common.{◌≡◌, ℕ, ◌+◌, ◌^◌, ◌<◌, ◌≤◌, ℤ, ◌+ℤ◌, ◌-ℤ◌, true, List, length, refl, ap, arith, sym, ◌∙◌, Option, Some, None, slice_get, subst, ◌⊎◌, inl, inr, get_or, unsigned_abs, pos, negsuc, FitsSigned}
+use Rattle.std.proofs.Common.{◌≡◌, ℕ, ◌+◌, ◌^◌, ◌<◌, ◌≤◌, ℤ, ◌+ℤ◌, ◌-ℤ◌, true, List, length, refl, ap, arith, sym, ◌∙◌}
+use Rattle.std.proofs.Common.{Option, Some, None, slice_get, subst, ◌⊎◌, inl, inr, get_or, unsigned_abs, pos, negsuc}
+use Rattle.std.proofs.Common.{FitsSigned}
 use Rattle.std.specs.Int.{w128}
 use Rattle.std.proofs.lemmas.Int.{ints}
 use Rattle.std.proofs.lemmas.Option.{slice_get-get_or, slice_get_within}
@@ -20,7 +22,8 @@ read_at xs i d x low is = slice_get-get_or xs i d low ∙ ap Some is
 -- a listed vector stands at a place below the number of sums
 pub place_low : (fs : List Sum) (place : ℕ) (v : Vector) → slice_get (vectors fs) place ≡ Some v → place < length fs
 place_low fs place v there =
-    let low = slice_get_within (vectors fs) place v there in omega (arith, low, length-map {A = Sum} {B = Vector} fs (λ s. s.vector))
+    let low = slice_get_within (vectors fs) place v there in
+    omega (arith, low, length-map {A = Sum} {B = Vector} fs (λ s. s.vector))
 
 pub target_low : (fs : List Sum) (h w j : ℕ) → Leads (vectors fs) h w j → j < length fs
 target_low fs h w j leads = place_low fs j _ leads.end
@@ -33,10 +36,12 @@ module _ (zs : List Vector) (next : Layer) (h w : ℕ) where
   reach_nowhere None e none = λ a reach. none reach.to reach.leads
   reach_nowhere (Some j) e leads = absurd (cc)
 
-  pub reach_end : is_rising zs ≡ true → (to : ℕ) → Leads zs h w to → slice_get next to ≡ Some None → IsReach zs next h w None
+  pub reach_end : is_rising zs ≡ true → (to : ℕ) → Leads zs h w to → slice_get next to ≡ Some None →
+      IsReach zs next h w None
   reach_end rising to leads cell a reach =
       let same : to ≡ reach.to = leads_once zs rising h w to reach.to leads reach.leads in
-      let other : Some a ≡ None = at_same (slice_get next to) (Some a) None (ap (slice_get next) same ∙ reach.cell) cell in
+      let other : Some a ≡ None = at_same (slice_get next to) (Some a) None
+      (ap (slice_get next) same ∙ reach.cell) cell in
       not_none (Some a) a refl other
 
   pub reach_some : (o : Option ℕ) (to : ℕ) → o ≡ Some to → IsTarget zs h w o → Leads zs h w to
@@ -73,12 +78,20 @@ module _ (zs : List Vector) (rising : is_rising zs ≡ true) (menu : Menu) (next
   abbrev pub NoneOf : ℕ → Type 0
   NoneOf n = (i : ℕ) → i < n → Goes zs menu next w i c → ⊥
 
-  pub choice_here : (n : ℕ) (m : PricedMove) (r : Reach) → slice_get menu n ≡ Some m → Leads zs m.place w r.to → slice_get next r.to ≡ Some (Some r.rest) →
-      c ≡ (m.change +ℤ r.rest) → NoneOf n → IsChoice zs menu next w c (record { place = m.place; to = r.to; rest = r.rest })
+  pub choice_here : (n : ℕ) (m : PricedMove) (r : Reach) → slice_get menu n ≡ Some m → Leads zs m.place w r.to →
+      slice_get next r.to ≡ Some (Some r.rest) →
+      c ≡ (m.change +ℤ r.rest) → NoneOf n →
+      IsChoice zs menu next w c (record { place = m.place; to = r.to; rest = r.rest })
   choice_here n m r there leads cell is none = record {
     i = n;
     first = record {
-      goes = record { move = m; there = there; rest = r.rest; reach = record { to = r.to; leads = leads; cell = cell }; is = is };
+      goes = record {
+        move = m;
+        there = there;
+        rest = r.rest;
+        reach = record { to = r.to; leads = leads; cell = cell };
+        is = is;
+      };
       none_before = none;
     };
     place = refl;
@@ -86,7 +99,8 @@ module _ (zs : List Vector) (rising : is_rising zs ≡ true) (menu : Menu) (next
     rest = refl;
   }
 
-  pub choice_later : (n : ℕ) (m : PricedMove) (o : Option Reach) → slice_get menu n ≡ Some m → IsReach zs next m.place w o →
+  pub choice_later : (n : ℕ) (m : PricedMove) (o : Option Reach) → slice_get menu n ≡ Some m →
+      IsReach zs next m.place w o →
       ((r : Reach) → o ≡ Some r → c ≡ (m.change +ℤ r.rest) → ⊥) → NoneOf n → NoneOf (n + 1)
   choice_later n m o there is other so_far i low goes = by (cases_lt i n)
     where
@@ -102,11 +116,13 @@ module _ (zs : List Vector) (rising : is_rising zs ≡ true) (menu : Menu) (next
           cost : c ≡ (m.change +ℤ goes.rest)
           cost = goes.is ∙ ap (λ (m : PricedMove). m.change +ℤ goes.rest) moves
 
-          at : (o : Option Reach) → IsReach zs next m.place w o → ((r : Reach) → o ≡ Some r → c ≡ (m.change +ℤ r.rest) → ⊥) → Reaches zs next m.place w goes.rest → ⊥
+          at : (o : Option Reach) → IsReach zs next m.place w o →
+              ((r : Reach) → o ≡ Some r → c ≡ (m.change +ℤ r.rest) → ⊥) → Reaches zs next m.place w goes.rest → ⊥
           at None none other reach = none goes.rest reach
           at (Some r) (leads, cell) other reach =
               let same_rest : goes.rest ≡ r.rest =
-              reaches_once zs rising next m.place w goes.rest r.rest reach (record { to = r.to; leads = leads; cell = cell }) in
+              reaches_once zs rising next m.place w goes.rest r.rest reach
+              (record { to = r.to; leads = leads; cell = cell }) in
               other r refl (cost ∙ ap (λ a. m.change +ℤ a) same_rest)
 
       by : (i < n) ⊎ (n ≤ i) → ⊥

@@ -1,5 +1,6 @@
 -- Where moves lead, row by row.
-use Rattle.std.proofs.Common.{◌≡◌, ℕ, ◌+◌, ◌<◌, ◌≤◌, List, [], ◌∷◌, ◌++◌, length, zero, suc, refl, ap, arith, sym, ◌∙◌, Option, Some, slice_get, subst, ◌⊎◌, inl, inr, All, get_or}
+use Rattle.std.proofs.Common.{◌≡◌, ℕ, ◌+◌, ◌<◌, ◌≤◌, List, [], ◌∷◌, ◌++◌, length, zero, suc, refl, ap, arith, sym, ◌∙◌}
+use Rattle.std.proofs.Common.{Option, Some, slice_get, subst, ◌⊎◌, inl, inr, All, get_or}
 use Rattle.std.proofs.lemmas.List.{length-append, length-map}
 use Rattle.std.proofs.lemmas.Option.{slice_get_within, slice_get-get_or}
 use Rattle.std.proofs.lemmas.Bool.{cases_lt}
@@ -16,11 +17,16 @@ module _ {A : Type 0} where
   some_is a b e = cc
 
   -- what stands at a place after one more element
-  pub slice_get-push : (xs : List A) (x y : A) (j : ℕ) → slice_get (xs ++ x ∷ []) j ≡ Some y → (slice_get xs j ≡ Some y) ⊎ ((j ≡ length xs) × (x ≡ y))
+  pub slice_get-push : (xs : List A) (x y : A) (j : ℕ) → slice_get (xs ++ x ∷ []) j ≡ Some y →
+      (slice_get xs j ≡ Some y) ⊎ ((j ≡ length xs) × (x ≡ y))
   slice_get-push [] x y zero e = inr (refl, some_is x y e)
   slice_get-push [] x y (suc j) e = absurd (cc)
   slice_get-push (z ∷ xs) x y zero e = inl e
-  slice_get-push (z ∷ xs) x y (suc j) e = elim (slice_get-push xs x y j e) [ inl before ↦ inl before | inr last ↦ inr (ap suc last.0, last.1) ]
+  slice_get-push (z ∷ xs) x y (suc j) e = elim (slice_get-push xs x y j e) [
+    | inl before ↦ inl before
+    | inr last ↦
+        inr (ap suc last.0, last.1)
+  ]
 
 -- the targets from the first n sums
 pub record RowUpTo (zs : List Vector) (h : ℕ) (row : List (Option ℕ)) (n : ℕ) : Type 0 where
@@ -33,18 +39,22 @@ row_none zs h row is = record {
   each = λ w to there. absurd (omega (arith, slice_get_within row w to there, ap length is));
 }
 
-pub row_more : (zs : List Vector) (h : ℕ) (row more : List (Option ℕ)) (n : ℕ) (to : Option ℕ) → more ≡ row ++ to ∷ [] → IsTarget zs h n to →
+pub row_more : (zs : List Vector) (h : ℕ) (row more : List (Option ℕ)) (n : ℕ) (to : Option ℕ) → more ≡ row ++ to ∷ [] →
+    IsTarget zs h n to →
     RowUpTo zs h row n → RowUpTo zs h more (n + 1)
 row_more zs h row more n to is leads so_far = record {
   size = ap length is ∙ length-append row (to ∷ []) ∙ ap (λ m. m + 1) so_far.size;
   each = λ w other there. by w other (slice_get-push row to other w (ap (λ r. slice_get r w) (sym is) ∙ there));
 }
   where
-    by : (w : ℕ) (other : Option ℕ) → (slice_get row w ≡ Some other) ⊎ ((w ≡ length row) × (to ≡ other)) → IsTarget zs h w other
+    by : (w : ℕ) (other : Option ℕ) → (slice_get row w ≡ Some other) ⊎ ((w ≡ length row) × (to ≡ other)) →
+        IsTarget zs h w other
     by w other (inl before) = so_far.each w other before
-    by w other (inr (place, same)) = subst (IsTarget zs h w) same (subst (λ u. IsTarget zs h u to) (sym (place ∙ so_far.size)) leads)
+    by w other (inr (place, same)) =
+        subst (IsTarget zs h w) same (subst (λ u. IsTarget zs h u to) (sym (place ∙ so_far.size)) leads)
 
-pub row_all : (zs : List Vector) (h : ℕ) (row : List (Option ℕ)) (n : ℕ) → n ≡ length zs → RowUpTo zs h row n → IsTargetRow zs h row
+pub row_all : (zs : List Vector) (h : ℕ) (row : List (Option ℕ)) (n : ℕ) → n ≡ length zs → RowUpTo zs h row n →
+    IsTargetRow zs h row
 row_all zs h row n all so_far = record { size = so_far.size ∙ all; each = so_far.each }
 
 abbrev pub Row : Type 0
@@ -61,19 +71,23 @@ rows_none zs rows is = record {
   each = λ h row there. absurd (omega (arith, slice_get_within rows h row there, ap length is));
 }
 
-pub rows_more : (zs : List Vector) (rows more : List Row) (n : ℕ) (row : Row) → more ≡ rows ++ row ∷ [] → IsTargetRow zs n row.items →
+pub rows_more : (zs : List Vector) (rows more : List Row) (n : ℕ) (row : Row) → more ≡ rows ++ row ∷ [] →
+    IsTargetRow zs n row.items →
     RowsUpTo zs rows n → RowsUpTo zs more (n + 1)
 rows_more zs rows more n row is leads so_far = record {
   size = ap length is ∙ length-append rows (row ∷ []) ∙ ap (λ m. m + 1) so_far.size;
   each = λ h other there. by h other (slice_get-push rows row other h (ap (λ r. slice_get r h) (sym is) ∙ there));
 }
   where
-    by : (h : ℕ) (other : Row) → (slice_get rows h ≡ Some other) ⊎ ((h ≡ length rows) × (row ≡ other)) → IsTargetRow zs h other.items
+    by : (h : ℕ) (other : Row) → (slice_get rows h ≡ Some other) ⊎ ((h ≡ length rows) × (row ≡ other)) →
+        IsTargetRow zs h other.items
     by h other (inl before) = so_far.each h other before
     by h other (inr (place, same)) =
-        subst (λ (r : Row). IsTargetRow zs h r.items) same (subst (λ g. IsTargetRow zs g row.items) (sym (place ∙ so_far.size)) leads)
+        subst (λ (r : Row). IsTargetRow zs h r.items) same
+        (subst (λ g. IsTargetRow zs g row.items) (sym (place ∙ so_far.size)) leads)
 
-pub rows_all : (fs : List Sum) (rows : List Row) (n : ℕ) → n ≡ length fs → RowsUpTo (vectors fs) rows n → AreTargets (vectors fs) rows
+pub rows_all : (fs : List Sum) (rows : List Row) (n : ℕ) → n ≡ length fs → RowsUpTo (vectors fs) rows n →
+    AreTargets (vectors fs) rows
 rows_all fs rows n all so_far = record {
   size = so_far.size ∙ all ∙ sym (length-map {A = Sum} {B = Vector} fs (λ s. s.vector));
   each = so_far.each;
@@ -82,7 +96,8 @@ rows_all fs rows n all so_far = record {
 -- ---- entries that a word holds
 
 pub words_more : (vs : List Vector) (n : ℕ) (v : Vector) → slice_get vs n ≡ Some v → All IsWord v →
-    ((j : ℕ) (u : Vector) → j < n → slice_get vs j ≡ Some u → All IsWord u) → (j : ℕ) (u : Vector) → j < n + 1 → slice_get vs j ≡ Some u → All IsWord u
+    ((j : ℕ) (u : Vector) → j < n → slice_get vs j ≡ Some u → All IsWord u) → (j : ℕ) (u : Vector) → j < n + 1 →
+    slice_get vs j ≡ Some u → All IsWord u
 words_more vs n v here words so_far j u low there = elim (cases_lt j n) [
   | inl before ↦ so_far j u before there
   | inr high ↦
@@ -90,5 +105,6 @@ words_more vs n v here words so_far j u low there = elim (cases_lt j n) [
       subst (λ w. All IsWord w) (at_same (slice_get vs n) v u here (ap (slice_get vs) (sym last) ∙ there)) words
 ]
 
-pub words_all : (vs : List Vector) (n : ℕ) → length vs ≤ n → ((j : ℕ) (u : Vector) → j < n → slice_get vs j ≡ Some u → All IsWord u) → All (All IsWord) vs
+pub words_all : (vs : List Vector) (n : ℕ) → length vs ≤ n →
+    ((j : ℕ) (u : Vector) → j < n → slice_get vs j ≡ Some u → All IsWord u) → All (All IsWord) vs
 words_all vs n all so_far i d low = so_far i (get_or vs i d) (omega (arith, low, all)) (slice_get-get_or vs i d low)

@@ -1,5 +1,6 @@
 -- Bounds that widen, one after the other.
-use Rattle.std.proofs.Common.{◌≡◌, ℕ, ◌+◌, ◌<◌, ◌≤◌, ℤ, ◌+ℤ◌, ◌-ℤ◌, List, length, refl, ap, arith, sym, ◌∙◌, Option, Some, None, slice_get, subst, ◌⊎◌, inl, inr, set}
+use Rattle.std.proofs.Common.{◌≡◌, ℕ, ◌+◌, ◌<◌, ◌≤◌, ℤ, ◌+ℤ◌, ◌-ℤ◌, List, length, refl, ap, arith, sym, ◌∙◌, Option}
+use Rattle.std.proofs.Common.{Some, None, slice_get, subst, ◌⊎◌, inl, inr, set}
 use Rattle.std.specs.Prelude.{IfSome, SomeIff}
 use Rattle.std.proofs.lemmas.Bool.{cases_order}
 use Rattle.std.proofs.lemmas.List.{length-set}
@@ -14,55 +15,73 @@ use Rattle.layer_sieve.proofs.FlagLaws.{if_some}
 -- the first n bounds are wider, the others as they were
 pub record AreWider (tops : List (Option ℤ)) (spread : Option ℤ) (now : List (Option ℤ)) (n : ℕ) : Type 0 where
   pub size : length now ≡ length tops
-  pub done : (h : ℕ) (wide : ℤ) → h < n → slice_get now h ≡ Some (Some wide) → (top : Option ℤ) × (slice_get tops h ≡ Some top) × IsWider top spread wide
+  pub done : (h : ℕ) (wide : ℤ) → h < n → slice_get now h ≡ Some (Some wide) →
+      (top : Option ℤ) × (slice_get tops h ≡ Some top) × IsWider top spread wide
   pub rest : (h : ℕ) → n ≤ h → slice_get now h ≡ slice_get tops h
 
 pub wider_none : (tops : List (Option ℤ)) (spread : Option ℤ) → AreWider tops spread tops 0
 wider_none tops spread = record { size = refl; done = λ h wide low. absurd (omega (arith, low)); rest = λ h high. refl }
 
-pub wider_more : (tops : List (Option ℤ)) (spread : Option ℤ) (now more : List (Option ℤ)) (n : ℕ) (top new : Option ℤ) → slice_get now n ≡ Some top →
-    IfSome new (IsWider top spread) → more ≡ set now n new → AreWider tops spread now n → AreWider tops spread more (n + 1)
+pub wider_more : (tops : List (Option ℤ)) (spread : Option ℤ) (now more : List (Option ℤ)) (n : ℕ)
+    (top new : Option ℤ) → slice_get now n ≡ Some top →
+    IfSome new (IsWider top spread) → more ≡ set now n new → AreWider tops spread now n →
+    AreWider tops spread more (n + 1)
 wider_more tops spread now more n top new here is_wider is so_far = record {
   size = ap length is ∙ length-set now n new ∙ so_far.size;
   done = λ h wide low there. by h wide low there (cases_order h n);
-  rest = λ h high. ap (λ ts. slice_get ts h) is ∙ slice_get-set_other now n h new (λ e. omega (arith, high, e)) ∙ so_far.rest h (omega (arith, high));
+  rest = λ h high. ap (λ ts. slice_get ts h) is ∙ slice_get-set_other now n h new (λ e. omega (arith, high, e))
+      ∙ so_far.rest h (omega (arith, high));
 }
   where
     by : (h : ℕ) (wide : ℤ) → h < n + 1 → slice_get more h ≡ Some (Some wide) → (h ≡ n) ⊎ ((h < n) ⊎ (n < h)) →
         (top : Option ℤ) × (slice_get tops h ≡ Some top) × IsWider top spread wide
     by h wide low there (inl same) =
         let found : new ≡ Some wide =
-        at_same (slice_get more n) new (Some wide) (ap (λ ts. slice_get ts n) is ∙ slice_get-set_same now n new (slice_get_within now n top here)) (ap (slice_get more) (sym same) ∙ there) in
-        (top, ap (slice_get tops) same ∙ sym (so_far.rest n (omega arith)) ∙ here, if_some (IsWider top spread) new wide found is_wider)
+        at_same (slice_get more n) new (Some wide)
+        (ap (λ ts. slice_get ts n) is ∙ slice_get-set_same now n new (slice_get_within now n top here))
+        (ap (slice_get more) (sym same) ∙ there) in (
+          top,
+          ap (slice_get tops) same ∙ sym (so_far.rest n (omega arith))
+              ∙ here,
+          if_some (IsWider top spread) new wide found is_wider,
+        )
     by h wide low there (inr (inl before)) =
-        so_far.done h wide before (sym (slice_get-set_other now n h new (λ e. omega (arith, before, e))) ∙ ap (λ ts. slice_get ts h) (sym is) ∙ there)
+        so_far.done h wide before (sym (slice_get-set_other now n h new (λ e. omega (arith, before, e)))
+        ∙ ap (λ ts. slice_get ts h) (sym is) ∙ there)
     by h wide low there (inr (inr behind)) = absurd (omega (arith, low, behind))
 
-pub spread_all : (next layer : Layer) (least most spread : ℤ) (n : ℕ) → length layer ≤ n → spread ≡ (most -ℤ least) → FallsBetween next layer least most n → IsSpread next layer spread
+pub spread_all : (next layer : Layer) (least most spread : ℤ) (n : ℕ) → length layer ≤ n → spread ≡ (most -ℤ least) →
+    FallsBetween next layer least most n → IsSpread next layer spread
 spread_all next layer least most spread n all is falls =
     (least, most, λ w a there. falls w a (omega (arith, all, slice_get_within layer w (Some a) there)) there, is)
 
-pub wider_all : (zs : List Vector) (next layer : Layer) (tops now : List (Option ℤ)) (spread : Option ℤ) (n : ℕ) → length tops ≤ n → AreKept next layer →
+pub wider_all : (zs : List Vector) (next layer : Layer) (tops now : List (Option ℤ)) (spread : Option ℤ) (n : ℕ) →
+    length tops ≤ n → AreKept next layer →
     IfSome spread (IsSpread next layer) → AreTops zs next tops → AreWider tops spread now n → AreTops zs layer now
 wider_all zs next layer tops now spread n all kept is_spread are wider = record {
   size = wider.size ∙ are.size;
   each = λ h wide there.
       let low = slice_get_within now h (Some wide) there in
-      let (top, before, (a, b, top_is, spread_is, wide_is)) = wider.done h wide (omega (arith, all, low, wider.size)) there in
+      let (top, before, (a, b, top_is, spread_is, wide_is)) =
+      wider.done h wide (omega (arith, all, low, wider.size)) there in
       let (least, most, falls, is) = if_some (IsSpread next layer) spread b spread_is is_spread in
-      let bound = top_wider next layer zs h a least most (λ w c inside cell. falls w c cell) kept (are.each h a (before ∙ ap Some top_is)) in
+      let bound = top_wider next layer zs h a least most (λ w c inside cell.
+      falls w c cell) kept (are.each h a (before ∙ ap Some top_is)) in
       subst (λ t. IsTop zs layer h t) (sym (wide_is ∙ ap (λ s. a +ℤ s) is)) bound;
 }
 
-pub falls_same : (next layer : Layer) (least most less more : ℤ) (n : ℕ) → less ≡ least → more ≡ most → FallsBetween next layer least most n → FallsBetween next layer less more n
+pub falls_same : (next layer : Layer) (least most less more : ℤ) (n : ℕ) → less ≡ least → more ≡ most →
+    FallsBetween next layer least most n → FallsBetween next layer less more n
 falls_same next layer least most less more n down up falls =
-    subst (λ l. FallsBetween next layer l more n) (sym down) (subst (λ m. FallsBetween next layer least m n) (sym up) falls)
+    subst (λ l. FallsBetween next layer l more n) (sym down)
+    (subst (λ m. FallsBetween next layer least m n) (sym up) falls)
 
 pub some_iff : (o : Option ℤ) (P : Type 0) (v x : ℤ) → SomeIff o P v → o ≡ Some x → x ≡ v
 some_iff None P v x h e = absurd (cc)
 some_iff (Some y) P v x h e = sym (at_same (Some y) y x refl e) ∙ h.1
 
-pub spread_some : (o : Option ℤ) (P : Type 0) (next layer : Layer) (least most : ℤ) (n : ℕ) → SomeIff o P (most -ℤ least) → length layer ≤ n →
+pub spread_some : (o : Option ℤ) (P : Type 0) (next layer : Layer) (least most : ℤ) (n : ℕ) →
+    SomeIff o P (most -ℤ least) → length layer ≤ n →
     FallsBetween next layer least most n → IfSome o (IsSpread next layer)
 spread_some None P next layer least most n h all falls = tt
 spread_some (Some y) P next layer least most n h all falls = spread_all next layer least most y n all h.1 falls

@@ -13,7 +13,8 @@ AreKept next layer = (w : ℕ) (c : ℤ) → slice_get next w ≡ Some (Some c) 
 -- each cell fell by at least so much and at most so much
 abbrev pub FallBetween : Layer → Layer → ℤ → ℤ → Type 0
 FallBetween next layer least most =
-    (w : ℕ) (a : ℤ) → slice_get layer w ≡ Some (Some a) → (b : ℤ) × (slice_get next w ≡ Some (Some b)) × (least ≤ℤ (b -ℤ a)) × ((b -ℤ a) ≤ℤ most)
+    (w : ℕ) (a : ℤ) → slice_get layer w ≡ Some (Some a) →
+    (b : ℤ) × (slice_get next w ≡ Some (Some b)) × (least ≤ℤ (b -ℤ a)) × ((b -ℤ a) ≤ℤ most)
 
 -- the falls are in a range of this width
 abbrev pub IsSpread : Layer → Layer → ℤ → Type 0

@@ -31,7 +31,8 @@ pub fn first_choice(
     requires size { length next.now ≡ length targets.now }
     requires small { AreAtMost (2 ^ 122) next.now }
     requires from { from < length targets.now }
-    ensures { MatchOption result ((i : ℕ) → ¬ Goes (vectors targets.now) menu.now next.now from i cost) (IsChoice (vectors targets.now) menu.now next.now from cost) }
+    ensures { MatchOption result ((i : ℕ) → ¬ Goes (vectors targets.now) menu.now next.now from i cost)
+        (IsChoice (vectors targets.now) menu.now next.now from cost) }
 {
     for m in menu {
         let Some(reached) = reached_from(targets, next, m.place, from) else {

@@ -49,7 +49,8 @@ impl Layers {
 
     /// The last layer once more.
     pub fn repeat(&mut self) -> Result<(), AllocError>
-        ensures again { OnOk result ((layer : Layer) → slice_get self.old (length self.old - 1) ≡ Some layer → self.new ≡ self.old ++ layer ∷ []) }
+        ensures again { OnOk result ((layer : Layer) → slice_get self.old (length self.old - 1) ≡ Some layer →
+            self.new ≡ self.old ++ layer ∷ []) }
         ensures count { OnOk result (length self.new ≡ length self.old + 1) }
     {
         let place = self.places[self.places.len() - 1];

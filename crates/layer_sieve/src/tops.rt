@@ -12,8 +12,8 @@ use crate::reaching::reached_from;
 use crate::targets::Targets;
 use sieve_laws::PricedMove;
 
-/// Whether the move lowers no cell. `tops` has bounds for the moves, which may be wide; one that does not show it is made
-/// anew for the layer.
+/// Whether the move lowers no cell. `tops` has bounds for the moves, which may be wide; one that does not show it is
+/// made anew for the layer.
 pub(crate) fn is_idle(
     targets: &Targets,
     next: &[Option<i128>],

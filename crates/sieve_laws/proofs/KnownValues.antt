@@ -37,4 +37,10 @@ known_reaches = record { to = 1; leads = known_leads; cell = refl }
 
 -- so it costs 1 with the walk behind it, which is 6 less than to stay
 known_goes : Goes three menu layer 0 1 (pos 1)
-known_goes = record { move = record { place = 2; change = negsuc 2 }; there = refl; rest = pos 4; reach = known_reaches; is = refl }
+known_goes = record {
+  move = record { place = 2; change = negsuc 2 };
+  there = refl;
+  rest = pos 4;
+  reach = known_reaches;
+  is = refl;
+}

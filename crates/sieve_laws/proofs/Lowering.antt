@@ -1,5 +1,6 @@
 -- A layer is lowered by one move of the menu after the other; a move that is idle is left out.
-use Rattle.std.proofs.Common.{◌≡◌, ◌≢◌, ℕ, ◌+◌, ◌<◌, ◌≤◌, ℤ, ◌+ℤ◌, ◌≤ℤ◌, Bool, true, false, cond, int_lt, List, length, refl, ap, arith, sym, ◌∙◌, Option, Some, None, subst, ◌⊎◌, inl, inr}
+use Rattle.std.proofs.Common.{◌≡◌, ◌≢◌, ℕ, ◌+◌, ◌<◌, ◌≤◌, ℤ, ◌+ℤ◌, ◌≤ℤ◌, Bool, true, false, cond, int_lt, List, length}
+use Rattle.std.proofs.Common.{refl, ap, arith, sym, ◌∙◌, Option, Some, None, subst, ◌⊎◌, inl, inr}
 use Rattle.std.proofs.lemmas.Int.{ints}
 use Rattle.std.proofs.lemmas.Bool.{cases_lt, cases_order}
 use Rattle.std.proofs.lemmas.List.{length-set}
@@ -12,7 +13,8 @@ use Rattle.lattice_laws.proofs.Rising.{lex_less_irrefl}
 use Rattle.walk_laws.proofs.Orders.{rising_places}
 use Rattle.sieve_laws.proofs.Cells.{at_same, not_none, read_at, slice_get-set_same, slice_get-set_other}
 use Rattle.sieve_laws.specs.declared.PricedMove.{PricedMove}
-use Rattle.sieve_laws.specs.Sieve.{Layer, Menu, Leads, Reaches, IsOffer, lesser, IsLoweredBy, IsAtMost, IsIdle, IsTop, AreTops, Goes, MayStay, IsLayerOver}
+use Rattle.sieve_laws.specs.Sieve.{Layer, Menu, Leads, Reaches, IsOffer, lesser, IsLoweredBy, IsAtMost, IsIdle, IsTop}
+use Rattle.sieve_laws.specs.Sieve.{AreTops, Goes, MayStay, IsLayerOver}
 
 -- ---- the lesser of two costs
 
@@ -58,8 +60,10 @@ module _ (zs : List Vector) (next : Layer) (m : PricedMove) (before : Layer) whe
   pub sums_none : IsLoweredUpTo before 0
   sums_none = record { size = refl; done = λ w kept low. absurd (omega (arith, low)); rest = λ w high. refl }
 
-  one_more : (layer more : Layer) (n : ℕ) (kept offer : Option ℤ) → slice_get layer n ≡ Some kept → IsOffer zs next m n offer →
-      length more ≡ length layer → slice_get more n ≡ Some (lesser kept offer) → ((w : ℕ) → w ≢ n → slice_get more w ≡ slice_get layer w) →
+  one_more : (layer more : Layer) (n : ℕ) (kept offer : Option ℤ) → slice_get layer n ≡ Some kept →
+      IsOffer zs next m n offer →
+      length more ≡ length layer → slice_get more n ≡ Some (lesser kept offer) →
+      ((w : ℕ) → w ≢ n → slice_get more w ≡ slice_get layer w) →
       IsLoweredUpTo layer n → IsLoweredUpTo more (n + 1)
   one_more layer more n kept offer here is size now others so_far = record {
     size = size ∙ so_far.size;
@@ -71,7 +75,8 @@ module _ (zs : List Vector) (next : Layer) (m : PricedMove) (before : Layer) whe
           (offer : Option ℤ) × IsOffer zs next m w offer × (slice_get more w ≡ Some (lesser old offer))
       by w old low there (inl same) =
           let olds : kept ≡ old =
-          at_same (slice_get before n) kept old (sym (so_far.rest n (omega arith)) ∙ here) (ap (slice_get before) (sym same) ∙ there) in (
+          at_same (slice_get before n) kept old (sym (so_far.rest n (omega arith)) ∙ here)
+          (ap (slice_get before) (sym same) ∙ there) in (
             offer,
             subst (λ u. IsOffer zs next m u offer) (sym same) is,
             ap (slice_get more) same ∙ now ∙ ap (λ o. Some (lesser o offer)) olds,
@@ -82,7 +87,8 @@ module _ (zs : List Vector) (next : Layer) (m : PricedMove) (before : Layer) whe
       by w old low there (inr (inr over)) = absurd (omega (arith, low, over))
 
   -- the cell of one more sum is the lesser of what it was and what the move offers
-  pub sums_more : (layer more : Layer) (n : ℕ) (kept offer : Option ℤ) → slice_get layer n ≡ Some kept → IsOffer zs next m n offer →
+  pub sums_more : (layer more : Layer) (n : ℕ) (kept offer : Option ℤ) → slice_get layer n ≡ Some kept →
+      IsOffer zs next m n offer →
       more ≡ set layer n (lesser kept offer) → IsLoweredUpTo layer n → IsLoweredUpTo more (n + 1)
   sums_more layer more n kept offer here is new =
       let low = slice_get_within layer n kept here in
@@ -91,12 +97,14 @@ module _ (zs : List Vector) (next : Layer) (m : PricedMove) (before : Layer) whe
       (λ w other. ap (λ l. slice_get l w) new ∙ slice_get-set_other layer n w (lesser kept offer) other)
 
   -- from one more sum the move reaches nothing
-  pub sums_unreached : (layer : Layer) (n : ℕ) (kept : Option ℤ) → slice_get layer n ≡ Some kept → IsOffer zs next m n None →
+  pub sums_unreached : (layer : Layer) (n : ℕ) (kept : Option ℤ) → slice_get layer n ≡ Some kept →
+      IsOffer zs next m n None →
       IsLoweredUpTo layer n → IsLoweredUpTo layer (n + 1)
   sums_unreached layer n kept here is =
       one_more layer layer n kept None here is refl (here ∙ ap Some (sym (lesser_none kept))) (λ w other. refl)
 
-  pub sums_all : (layer : Layer) (n : ℕ) → length before ≤ n → IsLoweredUpTo layer n → IsLoweredBy zs next m before layer
+  pub sums_all : (layer : Layer) (n : ℕ) → length before ≤ n → IsLoweredUpTo layer n →
+      IsLoweredBy zs next m before layer
   sums_all layer n all so_far = record {
     size = so_far.size;
     cells = λ w kept there. so_far.done w kept (omega (arith, all, slice_get_within before w kept there)) there;
@@ -138,7 +146,8 @@ module _ (zs : List Vector) (rising : is_rising zs ≡ true) where
       let cells : slice_get next two.to ≡ Some (Some a) = ap (slice_get next) (sym same) ∙ one.cell in
       at_same (Some a) a b refl (at_same (slice_get next two.to) (Some a) (Some b) cells two.cell)
 
-  pub lowered_none : (menu : Menu) (next : Layer) → length next ≡ length zs → MayStay zs menu next → IsLowered zs menu next 0 next
+  pub lowered_none : (menu : Menu) (next : Layer) → length next ≡ length zs → MayStay zs menu next →
+      IsLowered zs menu next 0 next
   lowered_none menu next size stay = record {
     size = size;
     attained = stay;
@@ -146,17 +155,20 @@ module _ (zs : List Vector) (rising : is_rising zs ≡ true) where
     below = λ w c cell. (c, cell, omega (arith, ints));
   }
 
-  goes_by : (menu : Menu) (next : Layer) (w i n : ℕ) (c : ℤ) (m : PricedMove) → slice_get menu n ≡ Some m → i ≡ n → Goes zs menu next w i c →
+  goes_by : (menu : Menu) (next : Layer) (w i n : ℕ) (c : ℤ) (m : PricedMove) → slice_get menu n ≡ Some m → i ≡ n →
+      Goes zs menu next w i c →
       (a : ℤ) × Reaches zs next m.place w a × (c ≡ (m.change +ℤ a))
   goes_by menu next w i n c m there same goes =
-      let moves : goes.move ≡ m = at_same (slice_get menu n) goes.move m (ap (slice_get menu) (sym same) ∙ goes.there) there in (
+      let moves : goes.move ≡ m = at_same (slice_get menu n) goes.move m (ap (slice_get menu) (sym same)
+      ∙ goes.there) there in (
         goes.rest,
         subst (λ (m : PricedMove). Reaches zs next m.place w goes.rest) moves goes.reach,
         goes.is ∙ ap (λ (m : PricedMove). m.change +ℤ goes.rest) moves,
       )
 
   -- a move that is idle is left out
-  pub lowered_idle : (menu : Menu) (next layer : Layer) (n : ℕ) (m : PricedMove) → slice_get menu n ≡ Some m → IsIdle zs next m →
+  pub lowered_idle : (menu : Menu) (next layer : Layer) (n : ℕ) (m : PricedMove) → slice_get menu n ≡ Some m →
+      IsIdle zs next m →
       IsLowered zs menu next n layer → IsLowered zs menu next (n + 1) layer
   lowered_idle menu next layer n m there idle so_far = record {
     size = so_far.size;
@@ -174,7 +186,8 @@ module _ (zs : List Vector) (rising : is_rising zs ≡ true) where
           (cell.0, cell.1, omega (arith, ints, cell.2, kept.2, offer.2))
 
   -- a move that is not left out lowers each cell to what it offers there
-  pub lowered_more : (menu : Menu) (next layer lower : Layer) (n : ℕ) (m : PricedMove) → slice_get menu n ≡ Some m → IsLoweredBy zs next m layer lower →
+  pub lowered_more : (menu : Menu) (next layer lower : Layer) (n : ℕ) (m : PricedMove) → slice_get menu n ≡ Some m →
+      IsLoweredBy zs next m layer lower →
       IsLowered zs menu next n layer → IsLowered zs menu next (n + 1) lower
   lowered_more menu next layer lower n m there by_move so_far = record {
     size = by_move.size ∙ so_far.size;
@@ -197,12 +210,14 @@ module _ (zs : List Vector) (rising : is_rising zs ≡ true) where
           offer = goes_by menu next w i n c m there (omega (arith, low, high)) goes
 
           kept : (o : Option ℤ) × (slice_get layer w ≡ Some o)
-          kept = read_at layer w (omega (arith, so_far.size, slice_get_within zs w offer.1.leads.from offer.1.leads.start))
+          kept = read_at layer w
+              (omega (arith, so_far.size, slice_get_within zs w offer.1.leads.from offer.1.leads.start))
 
           new : (o : Option ℤ) × IsOffer zs next m w o × (slice_get lower w ≡ Some (lesser kept.0 o))
           new = by_move.cells w kept.0 kept.1
 
-          told : (o : Option ℤ) → IsOffer zs next m w o → slice_get lower w ≡ Some (lesser kept.0 o) → IsAtMost lower w c
+          told : (o : Option ℤ) → IsOffer zs next m w o → slice_get lower w ≡ Some (lesser kept.0 o) →
+              IsAtMost lower w c
           told None none e = absurd (none offer.0 offer.1)
           told (Some d) (b, other, costs) e =
               let same : offer.0 ≡ b = reaches_once next m.place w offer.0 b offer.1 other in
@@ -221,17 +236,21 @@ module _ (zs : List Vector) (rising : is_rising zs ≡ true) where
               let same : d ≡ c = at_same (Some d) d c refl e in
               (n, record { move = m; there = there; rest = a; reach = reach; is = sym same ∙ costs })
 
-          from : (o offer : Option ℤ) → slice_get layer w ≡ Some o → IsOffer zs next m w offer → (o ≡ Some c) ⊎ (offer ≡ Some c) → (i : ℕ) × Goes zs menu next w i c
+          from : (o offer : Option ℤ) → slice_get layer w ≡ Some o → IsOffer zs next m w offer →
+              (o ≡ Some c) ⊎ (offer ≡ Some c) → (i : ℕ) × Goes zs menu next w i c
           from o offer here is (inl e) = so_far.attained w c (here ∙ ap Some e)
           from o offer here is (inr e) = offered offer is e
 
-          told : (o : Option ℤ) → slice_get layer w ≡ Some o → (offer : Option ℤ) × IsOffer zs next m w offer × (slice_get lower w ≡ Some (lesser o offer)) →
+          told : (o : Option ℤ) → slice_get layer w ≡ Some o →
+              (offer : Option ℤ) × IsOffer zs next m w offer × (slice_get lower w ≡ Some (lesser o offer)) →
               (i : ℕ) × Goes zs menu next w i c
           told o here (offer, is, e) =
-              from o offer here is (lesser_from o offer c (at_same (slice_get lower w) (lesser o offer) (Some c) e cell))
+              from o offer here is (lesser_from o offer c
+              (at_same (slice_get lower w) (lesser o offer) (Some c) e cell))
 
   -- after the whole menu the layer is that over the next one
-  pub lowered_all : (menu : Menu) (next layer : Layer) → IsLowered zs menu next (length menu) layer → IsLayerOver zs menu next layer
+  pub lowered_all : (menu : Menu) (next layer : Layer) → IsLowered zs menu next (length menu) layer →
+      IsLayerOver zs menu next layer
   lowered_all menu next layer all = record {
     size = all.size;
     attained = all.attained;
@@ -239,6 +258,7 @@ module _ (zs : List Vector) (rising : is_rising zs ≡ true) where
   }
 
   -- no cell of the layer is above that of the next one
-  pub never_above : (menu : Menu) (next layer : Layer) → MayStay zs menu next → IsLayerOver zs menu next layer → (w : ℕ) (c : ℤ) →
+  pub never_above : (menu : Menu) (next layer : Layer) → MayStay zs menu next → IsLayerOver zs menu next layer →
+      (w : ℕ) (c : ℤ) →
       slice_get next w ≡ Some (Some c) → IsAtMost layer w c
   never_above menu next layer stay over w c cell = let goes = stay w c cell in over.least w goes.0 c goes.1

@@ -22,10 +22,12 @@ after k v d = add v (scale (pos (2 ^ k)) d)
 -- the menu of a brick at the vector v: each listed move that stays within the bounds, once
 pub record IsMenu (phase : Phase) (zs : List Vector) (k : ℕ) (b : Brick) (v : Vector) (menu : Menu) : Type 0 where
   pub sound : (i : ℕ) (m : PricedMove) → slice_get menu i ≡ Some m →
-      (d : Vector) × (slice_get zs m.place ≡ Some d) × IsWithin b (after k v d) × (m.change ≡ brick_change phase b v (after k v d))
+      (d : Vector) × (slice_get zs m.place ≡ Some d) × IsWithin b (after k v d)
+      × (m.change ≡ brick_change phase b v (after k v d))
   pub complete : (h : ℕ) (d : Vector) → slice_get zs h ≡ Some d → IsWithin b (after k v d) →
       (i : ℕ) × (m : PricedMove) × (slice_get menu i ≡ Some m) × (m.place ≡ h)
-  pub rising : (i j : ℕ) (a b : PricedMove) → i < j → slice_get menu i ≡ Some a → slice_get menu j ≡ Some b → a.place < b.place
+  pub rising : (i j : ℕ) (a b : PricedMove) → i < j → slice_get menu i ≡ Some a → slice_get menu j ≡ Some b →
+      a.place < b.place
 
 -- the sum at place w and the one at place h add up to the one at place j
 pub record Leads (zs : List Vector) (h w j : ℕ) : Type 0 where

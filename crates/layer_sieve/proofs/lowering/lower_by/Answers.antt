@@ -13,8 +13,10 @@ use Rattle.layer_sieve.proofs.lowering.lower_by.Goals.{then-not-is_idle, else-no
 pub loop-m-init : goal.loop-m-init
 loop-m-init c = record {
   lowered =
-      subst (λ (l : Layer). IsLowered (vectors c.args.targets.now) c.args.menu.now c.args.next.now 0 l) (sym c.requires.begins) (
-      lowered_none (vectors c.args.targets.now) c.requires.rising c.args.menu.now c.args.next.now (c.requires.size ∙ sym (size_vectors c.args.targets.now)) c.requires.stays
+      subst (λ (l : Layer). IsLowered (vectors c.args.targets.now) c.args.menu.now c.args.next.now 0 l)
+      (sym c.requires.begins) (
+      lowered_none (vectors c.args.targets.now) c.requires.rising c.args.menu.now c.args.next.now
+      (c.requires.size ∙ sym (size_vectors c.args.targets.now)) c.requires.stays
       );
   same = search rules;
   tops = c.requires.tops;
@@ -27,32 +29,42 @@ loop-m-preserved c =
     elim c.if-not-is_idle.branch [
       | then-not-is_idle w ↦ record {
         lowered =
-            subst (λ (l : Layer). IsLowered (vectors c.args.targets.now) c.args.menu.now c.args.next.now (c.loop-m.m-index + 1) l) (sym w.layer-is) (
-            lowered_more (vectors c.args.targets.now) c.requires.rising c.args.menu.now c.args.next.now c.loop-m.layer w.lower-differs.new.layer c.loop-m.m-index _
-            (slice_get-get_or c.args.menu.now c.loop-m.m-index _ c.loop-m-test.true) w.lower-differs.ensures.lowered c.loop-m.invariant.lowered
+            subst (λ (l : Layer). IsLowered (vectors c.args.targets.now) c.args.menu.now c.args.next.now
+            (c.loop-m.m-index + 1) l) (sym w.layer-is) (
+            lowered_more (vectors c.args.targets.now) c.requires.rising c.args.menu.now c.args.next.now c.loop-m.layer
+            w.lower-differs.new.layer c.loop-m.m-index _
+            (slice_get-get_or c.args.menu.now c.loop-m.m-index _ c.loop-m-test.true) w.lower-differs.ensures.lowered
+            c.loop-m.invariant.lowered
             );
         same =
             same_told c.if-not-is_idle.differs _ c.args.next.now c.if-not-is_idle.layer w.differs-is (
-            same_more c.loop-m.differs w.lower-differs.result c.args.next.now c.loop-m.layer c.if-not-is_idle.layer c.loop-m.invariant.same
-            (subst (λ (l : Layer). OnFalse w.lower-differs.result (l ≡ c.loop-m.layer)) (sym w.layer-is) w.lower-differs.ensures.same)
+            same_more c.loop-m.differs w.lower-differs.result c.args.next.now c.loop-m.layer c.if-not-is_idle.layer
+            c.loop-m.invariant.same
+            (subst (λ (l : Layer). OnFalse w.lower-differs.result (l ≡ c.loop-m.layer))
+            (sym w.layer-is) w.lower-differs.ensures.same)
             );
         tops = c.is_idle.ensures.tops;
         rising = omega (arith, w.moves-is, w.lower-differs.ensures.rising, c.loop-m.invariant.rising);
-        counted = count_more c.args.moves.now c.loop-m.moves c.if-not-is_idle.moves (length c.args.targets.now) c.loop-m.m-index c.loop-m.invariant.counted
+        counted = count_more c.args.moves.now c.loop-m.moves c.if-not-is_idle.moves
+            (length c.args.targets.now) c.loop-m.m-index c.loop-m.invariant.counted
             (omega (arith, w.moves-is, w.lower-differs.ensures.counted));
       }
       | else-not-is_idle w ↦ record {
         lowered =
-            subst (λ (l : Layer). IsLowered (vectors c.args.targets.now) c.args.menu.now c.args.next.now (c.loop-m.m-index + 1) l) (sym w.layer-is) (
-            lowered_idle (vectors c.args.targets.now) c.requires.rising c.args.menu.now c.args.next.now c.loop-m.layer c.loop-m.m-index _
+            subst (λ (l : Layer). IsLowered (vectors c.args.targets.now) c.args.menu.now c.args.next.now
+            (c.loop-m.m-index + 1) l) (sym w.layer-is) (
+            lowered_idle (vectors c.args.targets.now) c.requires.rising c.args.menu.now c.args.next.now c.loop-m.layer
+            c.loop-m.m-index _
             (slice_get-get_or c.args.menu.now c.loop-m.m-index _ c.loop-m-test.true)
             (OnTrue_at w.if-not-is_idle.false c.is_idle.ensures.idle)
             c.loop-m.invariant.lowered
             );
-        same = same_kept c.loop-m.differs c.if-not-is_idle.differs c.args.next.now c.loop-m.layer c.if-not-is_idle.layer w.differs-is w.layer-is c.loop-m.invariant.same;
+        same = same_kept c.loop-m.differs c.if-not-is_idle.differs c.args.next.now c.loop-m.layer c.if-not-is_idle.layer
+            w.differs-is w.layer-is c.loop-m.invariant.same;
         tops = c.is_idle.ensures.tops;
         rising = omega (arith, w.moves-is, c.loop-m.invariant.rising);
-        counted = count_more c.args.moves.now c.loop-m.moves c.if-not-is_idle.moves (length c.args.targets.now) c.loop-m.m-index c.loop-m.invariant.counted (omega (arith, w.moves-is));
+        counted = count_more c.args.moves.now c.loop-m.moves c.if-not-is_idle.moves
+            (length c.args.targets.now) c.loop-m.m-index c.loop-m.invariant.counted (omega (arith, w.moves-is));
       }
     ]
 
@@ -60,4 +72,5 @@ pub returns-clause-over : goal.returns-clause-over
 returns-clause-over c =
     let size = c.loop-m-test.false in
     lowered_all (vectors c.args.targets.now) c.requires.rising c.args.menu.now c.args.next.now c.loop-m.layer
-    (subst (λ n. IsLowered (vectors c.args.targets.now) c.args.menu.now c.args.next.now n c.loop-m.layer) (omega (arith, size, c.loop-m.auto.m-index-end)) c.loop-m.invariant.lowered)
+    (subst (λ n. IsLowered (vectors c.args.targets.now) c.args.menu.now c.args.next.now n c.loop-m.layer)
+    (omega (arith, size, c.loop-m.auto.m-index-end)) c.loop-m.invariant.lowered)

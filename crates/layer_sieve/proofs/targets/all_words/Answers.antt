@@ -5,7 +5,9 @@ use Rattle.layer_sieve.proofs.ReachLaws.{size_vectors}
 use Rattle.layer_sieve.proofs.targets.all_words.Goals as goal
 
 pub loop-i-preserved : goal.loop-i-preserved
-loop-i-preserved c = words_more (vectors c.args.sums.now) c.loop-i.i c.get.result.now c.get.ensures.vector c.words.ensures c.loop-i.invariant
+loop-i-preserved c =
+    words_more (vectors c.args.sums.now) c.loop-i.i c.get.result.now c.get.ensures.vector c.words.ensures
+    c.loop-i.invariant
 
 pub returns : goal.returns
 returns c =

@@ -10,4 +10,5 @@ loop-entry-preserved c =
     below_more _ _ c.loop-entry.invariant (word_of (get_or c.args.vector.now c.loop-entry.entry-index (pos 0)) word)
 
 pub returns : goal.returns
-returns c = λ k d low. subst IsWord (get_or_default c.args.vector.now k (pos 0) d low) (c.loop-entry.invariant k (omega arith))
+returns c = λ k d low. subst IsWord (get_or_default c.args.vector.now k (pos 0) d low)
+    (c.loop-entry.invariant k (omega arith))

@@ -9,10 +9,13 @@ loop-h-init c = wider_none c.args.tops.now c.spread-spread.result
 
 pub loop-h-preserved : goal.loop-h-preserved
 loop-h-preserved c =
-    wider_more c.args.tops.now c.spread-spread.result c.loop-h.tops _ c.loop-h.h (get_or c.loop-h.tops c.loop-h.h None) c.wider.result
-    (slice_get-get_or c.loop-h.tops c.loop-h.h None (omega (arith, c.loop-h-test.true, c.loop-h.auto.tops))) c.wider.ensures refl c.loop-h.invariant
+    wider_more c.args.tops.now c.spread-spread.result c.loop-h.tops _ c.loop-h.h
+    (get_or c.loop-h.tops c.loop-h.h None) c.wider.result
+    (slice_get-get_or c.loop-h.tops c.loop-h.h None (omega (arith, c.loop-h-test.true, c.loop-h.auto.tops)))
+    c.wider.ensures refl c.loop-h.invariant
 
 pub returns : goal.returns
 returns c =
-    wider_all (vectors c.args._targets.now) c.args.next.now c.args.layer.now c.args.tops.now c.loop-h.tops c.spread-spread.result c.loop-h.h c.loop-h-test.false
+    wider_all (vectors c.args._targets.now) c.args.next.now c.args.layer.now c.args.tops.now c.loop-h.tops
+    c.spread-spread.result c.loop-h.h c.loop-h-test.false
     c.requires.kept c.spread-spread.ensures c.requires.tops c.loop-h.invariant
