@@ -13,12 +13,14 @@ use Rattle.rule_laws.specs.BestUpTo.{IsBestUpTo, kept_key}
 use Rattle.rule_laws.proofs.BestUpTo.{best_keeps, best_takes}
 
 -- a length that is beaten by the best step so far
-pub round_keeps : (f : FoldValue) (x : Bricks) (n : ℕ) (best : Option Step) (bound : Option Key) → bound ≡ kept_key best → IsBestUpTo f x n best →
+pub round_keeps : (f : FoldValue) (x : Bricks) (n : ℕ) (best : Option Step) (bound : Option Key) →
+    bound ≡ kept_key best → IsBestUpTo f x n best →
     IsBeaten f x n bound → IsBestUpTo f x (n + 1) best
 round_keeps f x n best bound is so_far beats = best_keeps f x n best so_far (subst (IsBeaten f x n) is beats)
 
 -- a length whose best step is not beaten
-pub round_takes : (f : FoldValue) (x : Bricks) (n : ℕ) (best : Option Step) (bound : Option Key) (s : Step) → bound ≡ kept_key best → IsBestUpTo f x n best →
+pub round_takes : (f : FoldValue) (x : Bricks) (n : ℕ) (best : Option Step) (bound : Option Key) (s : Step) →
+    bound ≡ kept_key best → IsBestUpTo f x n best →
     IsFound f x n s → (IsBeaten f x n bound → ⊥) → IsBestUpTo f x (n + 1) (Some s)
 round_takes f x n best bound s is so_far found unbeaten =
     by (beaten (record { gain = s.gain; k = n }) bound) refl
@@ -29,13 +31,15 @@ round_takes f x n best bound s is so_far found unbeaten =
 
 -- ---- the answers
 
-pub round_found : (f : FoldValue) (x : Bricks) (n : ℕ) (best : Option Step) (bound : Option Key) (s : Step) (answer : StepAnswer) → bound ≡ kept_key best →
+pub round_found : (f : FoldValue) (x : Bricks) (n : ℕ) (best : Option Step) (bound : Option Key) (s : Step)
+    (answer : StepAnswer) → bound ≡ kept_key best →
     IsBestUpTo f x n best → IsStepAnswer f x n bound answer → answer ≡ Found s → IsBestUpTo f x (n + 1) (Some s)
 round_found f x n best bound s answer is so_far told found =
     let known = subst (IsStepAnswer f x n bound) found told in
     round_takes f x n best bound s is so_far known.0 known.1
 
-pub round_beaten : (f : FoldValue) (x : Bricks) (n : ℕ) (best : Option Step) (bound : Option Key) (answer : StepAnswer) → bound ≡ kept_key best →
+pub round_beaten : (f : FoldValue) (x : Bricks) (n : ℕ) (best : Option Step) (bound : Option Key)
+    (answer : StepAnswer) → bound ≡ kept_key best →
     IsBestUpTo f x n best → IsStepAnswer f x n bound answer → answer ≡ Beaten → IsBestUpTo f x (n + 1) best
 round_beaten f x n best bound answer is so_far told beats =
     round_keeps f x n best bound is so_far (subst (IsStepAnswer f x n bound) beats told)

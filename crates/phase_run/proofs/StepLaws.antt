@@ -1,5 +1,7 @@
 -- The point after a step, brick by brick: what was recorded of the step is read beside the point.
-use Rattle.std.proofs.Common.{◌≡◌, ℕ, zero, suc, ◌+◌, ◌-◌, ◌^◌, ◌<◌, ◌≤◌, pos, Bool, true, false, List, [], ◌∷◌, ◌++◌, length, take, drop, get_or, refl, ap, arith, sym, ◌∙◌, Some, Option, slice_get, All, flat_map, append-nil}
+use Rattle.std.proofs.Common.{◌≡◌, ℕ, zero, suc, ◌+◌, ◌-◌, ◌^◌, ◌<◌, ◌≤◌, pos, Bool, true, false, List, [], ◌∷◌, ◌++◌}
+use Rattle.std.proofs.Common.{length, take, drop, get_or, refl, ap, arith, sym, ◌∙◌, Some, Option, slice_get, All}
+use Rattle.std.proofs.Common.{flat_map, append-nil}
 use Rattle.std.proofs.lemmas.List.{take_more, take_all, length-append, length-drop}
 use Rattle.std.proofs.Math.Seq.{drop-cons, take-append_seam, drop-append_seam}
 use Rattle.std.proofs.lemmas.Grind.{flat_map-append}
@@ -25,7 +27,8 @@ drop_here : {A : Type 0} (xs : List A) (k : ℕ) (x : A) → slice_get xs k ≡ 
 drop_here xs k x e =
     let low = slice_get_within xs k x e in
     let next : suc k ≡ k + 1 = omega arith in
-    drop-cons xs k x low ∙ ap (λ n. get_or xs k x ∷ drop n xs) next ∙ ap (λ y. y ∷ drop (k + 1) xs) (get_or_from_slice_get xs k x x e)
+    drop-cons xs k x low ∙ ap (λ n. get_or xs k x ∷ drop n xs) next
+    ∙ ap (λ y. y ∷ drop (k + 1) xs) (get_or_from_slice_get xs k x x e)
 
 -- what a part up to the end of a list is
 pub rest_of : {A : Type 0} (n : ℕ) (xs ys : List A) → ys ≡ take (length xs - n) (drop n xs) → ys ≡ drop n xs
@@ -34,18 +37,22 @@ rest_of n xs ys is = is ∙ take_all (length xs - n) (drop n xs) (omega (arith, 
 -- ---- what is recorded of a step
 
 -- what is recorded from brick i on, by whether its part is zero
-named_zero : (i : ℕ) (d : Vector) (h : Bricks) → is_zero d ≡ true → (nonzero_from (suc i) (d ∷ h) ≡ nonzero_from (suc (suc i)) h) × (nonzero_entries (d ∷ h) ≡ nonzero_entries h)
+named_zero : (i : ℕ) (d : Vector) (h : Bricks) → is_zero d ≡ true →
+    (nonzero_from (suc i) (d ∷ h) ≡ nonzero_from (suc (suc i)) h) × (nonzero_entries (d ∷ h) ≡ nonzero_entries h)
 named_zero i d h none =
     let next : suc i + 1 ≡ suc (suc i) = omega arith in (
-      ap (λ b. elim b [ true ↦ nonzero_from (suc i + 1) h | false ↦ suc i ∷ nonzero_from (suc i + 1) h ]) none ∙ ap (λ n. nonzero_from n h) next,
+      ap (λ b. elim b [ true ↦ nonzero_from (suc i + 1) h | false ↦ suc i ∷ nonzero_from (suc i + 1) h ]) none
+          ∙ ap (λ n. nonzero_from n h) next,
       ap (λ b. elim b [ true ↦ nonzero_entries h | false ↦ d ++ nonzero_entries h ]) none,
     )
 
 named_some : (i : ℕ) (d : Vector) (h : Bricks) → is_zero d ≡ false →
-    (nonzero_from (suc i) (d ∷ h) ≡ suc i ∷ nonzero_from (suc (suc i)) h) × (nonzero_entries (d ∷ h) ≡ d ++ nonzero_entries h)
+    (nonzero_from (suc i) (d ∷ h) ≡ suc i ∷ nonzero_from (suc (suc i)) h)
+    × (nonzero_entries (d ∷ h) ≡ d ++ nonzero_entries h)
 named_some i d h some =
     let next : suc i + 1 ≡ suc (suc i) = omega arith in (
-      ap (λ b. elim b [ true ↦ nonzero_from (suc i + 1) h | false ↦ suc i ∷ nonzero_from (suc i + 1) h ]) some ∙ ap (λ n. suc i ∷ nonzero_from n h) next,
+      ap (λ b. elim b [ true ↦ nonzero_from (suc i + 1) h | false ↦ suc i ∷ nonzero_from (suc i + 1) h ]) some
+          ∙ ap (λ n. suc i ∷ nonzero_from n h) next,
       ap (λ b. elim b [ true ↦ nonzero_entries h | false ↦ d ++ nonzero_entries h ]) some,
     )
 
@@ -59,7 +66,8 @@ named_behind i (d ∷ h) j e = by (is_zero d) refl (λ later. named_behind (suc 
         let low = behind (ap (λ ns. slice_get ns 0) (sym (named_zero i d h none).0) ∙ e) in
         omega (arith, low)
     by false some behind =
-        let same : suc i ≡ j = at_same (Some (suc i)) (suc i) j refl (ap (λ ns. slice_get ns 0) (sym (named_some i d h some).0) ∙ e) in
+        let same : suc i ≡ j = at_same (Some (suc i)) (suc i) j refl
+        (ap (λ ns. slice_get ns 0) (sym (named_some i d h some).0) ∙ e) in
         omega (arith, same)
 
 -- ---- the point, brick by brick
@@ -71,18 +79,22 @@ module _ (t k : ℕ) (x h : Bricks) where
     pub names_left : names ≡ nonzero_from (suc i) (drop i h)
     pub parts_left : parts ≡ nonzero_entries (drop i h)
 
-  pub stepped_none : (names : List ℕ) (parts entries : Vector) → names ≡ nonzero_from 1 h → parts ≡ nonzero_entries h → entries ≡ [] →
+  pub stepped_none : (names : List ℕ) (parts entries : Vector) → names ≡ nonzero_from 1 h → parts ≡ nonzero_entries h →
+      entries ≡ [] →
       SteppedUpTo 0 names parts entries
   stepped_none names parts entries are hold none = record { so_far = none; names_left = are; parts_left = hold }
 
   module _ (same : length h ≡ length x) (wx : All (λ v. length v ≡ t) x) (wh : All (λ v. length v ≡ t) h) where
     sized : (vs : Bricks) (i : ℕ) (v : Vector) → All (λ v. length v ≡ t) vs → slice_get vs i ≡ Some v → length v ≡ t
-    sized vs i v widths there = ap length (sym (get_or_from_slice_get vs i v v there)) ∙ widths i v (slice_get_within vs i v there)
+    sized vs i v widths there = ap length (sym (get_or_from_slice_get vs i v v there))
+        ∙ widths i v (slice_get_within vs i v there)
 
-    pub moved_there : (i : ℕ) (v d : Vector) → slice_get x i ≡ Some v → slice_get h i ≡ Some d → slice_get (moved x k h) i ≡ Some (add v (scale (pos (2 ^ k)) d))
+    pub moved_there : (i : ℕ) (v d : Vector) → slice_get x i ≡ Some v → slice_get h i ≡ Some d →
+        slice_get (moved x k h) i ≡ Some (add v (scale (pos (2 ^ k)) d))
     moved_there i v d at move = by x h i at move
       where
-        by : (x h : Bricks) (i : ℕ) → slice_get x i ≡ Some v → slice_get h i ≡ Some d → slice_get (moved x k h) i ≡ Some (add v (scale (pos (2 ^ k)) d))
+        by : (x h : Bricks) (i : ℕ) → slice_get x i ≡ Some v → slice_get h i ≡ Some d →
+            slice_get (moved x k h) i ≡ Some (add v (scale (pos (2 ^ k)) d))
         by [] h i at move = absurd (cc)
         by (u ∷ x) [] i at move = absurd (cc)
         by (u ∷ x) (e ∷ h) zero at move =
@@ -91,8 +103,10 @@ module _ (t k : ℕ) (x h : Bricks) where
             λ j. Some (add (first j) (scale (pos (2 ^ k)) (second j)))
         by (u ∷ x) (e ∷ h) (suc i) at move = by x h i at move
 
-    written : (i : ℕ) (v d end entries : Vector) → slice_get x i ≡ Some v → slice_get h i ≡ Some d → end ≡ add v (scale (pos (2 ^ k)) d) →
-        entries ≡ flat_map (λ u. u) (take i (moved x k h)) → entries ++ end ≡ flat_map (λ u. u) (take (i + 1) (moved x k h))
+    written : (i : ℕ) (v d end entries : Vector) → slice_get x i ≡ Some v → slice_get h i ≡ Some d →
+        end ≡ add v (scale (pos (2 ^ k)) d) →
+        entries ≡ flat_map (λ u. u) (take i (moved x k h)) →
+        entries ++ end ≡ flat_map (λ u. u) (take (i + 1) (moved x k h))
     written i v d end entries at move is so_far =
         let y : Bricks = moved x k h in
         let there = moved_there i v d at move in
@@ -113,7 +127,8 @@ module _ (t k : ℕ) (x h : Bricks) where
       pub names_after : drop 1 names ≡ nonzero_from (suc (i + 1)) (drop (i + 1) h)
       pub parts_after : drop t parts ≡ nonzero_entries (drop (i + 1) h)
 
-    pub part_of : (i : ℕ) (names : List ℕ) (parts entries : Vector) → i < length x → slice_get names 0 ≡ Some (i + 1) → SteppedUpTo i names parts entries → IsPart i names parts
+    pub part_of : (i : ℕ) (names : List ℕ) (parts entries : Vector) → i < length x → slice_get names 0 ≡ Some (i + 1) →
+        SteppedUpTo i names parts entries → IsPart i names parts
     part_of i names parts entries low named so_far = by (is_zero d) refl
       where
         move : (d : Vector) × (slice_get h i ≡ Some d)
@@ -136,39 +151,51 @@ module _ (t k : ℕ) (x h : Bricks) where
 
         by : (b : Bool) → is_zero d ≡ b → IsPart i names parts
         by true none =
-            let names_are : names ≡ nonzero_from (suc (suc i)) rest = so_far.names_left ∙ ap (nonzero_from (suc i)) here ∙ (named_zero i d rest none).0 in
+            let names_are : names ≡ nonzero_from (suc (suc i)) rest =
+            so_far.names_left ∙ ap (nonzero_from (suc i)) here ∙ (named_zero i d rest none).0 in
             let behind = named_behind (suc i) rest (i + 1) (ap (λ ns. slice_get ns 0) (sym names_are) ∙ named) in
             absurd (omega (arith, behind))
         by false some =
-            let names_are : names ≡ suc i ∷ nonzero_from (suc (suc i)) rest = so_far.names_left ∙ ap (nonzero_from (suc i)) here ∙ (named_some i d rest some).0 in
-            let parts_are : parts ≡ d ++ nonzero_entries rest = so_far.parts_left ∙ ap nonzero_entries here ∙ (named_some i d rest some).1 in
-            let long : length parts ≡ length d + length (nonzero_entries rest) = ap length parts_are ∙ length-append d (nonzero_entries rest) in
+            let names_are : names ≡ suc i ∷ nonzero_from (suc (suc i)) rest =
+            so_far.names_left ∙ ap (nonzero_from (suc i)) here ∙ (named_some i d rest some).0 in
+            let parts_are : parts ≡ d ++ nonzero_entries rest =
+            so_far.parts_left ∙ ap nonzero_entries here ∙ (named_some i d rest some).1 in
+            let long : length parts ≡ length d + length (nonzero_entries rest) =
+            ap length parts_are ∙ length-append d (nonzero_entries rest) in
             record {
               part = d;
               there = move.1;
-              is = ap (take t) parts_are ∙ ap (λ n. take n (d ++ nonzero_entries rest)) (sym width) ∙ take-append_seam d (nonzero_entries rest);
+              is = ap (take t) parts_are ∙ ap (λ n. take n (d ++ nonzero_entries rest)) (sym width)
+                  ∙ take-append_seam d (nonzero_entries rest);
               room = omega (arith, long, width);
               names_after = ap (drop 1) names_are ∙ ap (λ n. nonzero_from (suc n) rest) (sym number);
-              parts_after = ap (drop t) parts_are ∙ ap (λ n. drop n (d ++ nonzero_entries rest)) (sym width) ∙ drop-append_seam d (nonzero_entries rest);
+              parts_after = ap (drop t) parts_are ∙ ap (λ n. drop n (d ++ nonzero_entries rest)) (sym width)
+                  ∙ drop-append_seam d (nonzero_entries rest);
             }
 
     -- a brick that is named moves by its part
-    pub stepped_moved : (i : ℕ) (v end entries next : Vector) (names next_names : List ℕ) (parts next_parts : Vector) → slice_get x i ≡ Some v →
-        slice_get names 0 ≡ Some (i + 1) → end ≡ add v (scale (pos (2 ^ k)) (take t parts)) → next ≡ entries ++ end → next_names ≡ drop 1 names →
+    pub stepped_moved : (i : ℕ) (v end entries next : Vector) (names next_names : List ℕ) (parts next_parts : Vector) →
+        slice_get x i ≡ Some v →
+        slice_get names 0 ≡ Some (i + 1) → end ≡ add v (scale (pos (2 ^ k)) (take t parts)) → next ≡ entries ++ end →
+        next_names ≡ drop 1 names →
         next_parts ≡ drop t parts → SteppedUpTo i names parts entries → SteppedUpTo (i + 1) next_names next_parts next
     stepped_moved i v end entries next names next_names parts next_parts at named is pushed fewer less so_far =
         let p = part_of i names parts entries (slice_get_within x i v at) named so_far in
         record {
-          so_far = pushed ∙ written i v p.part end entries at p.there (is ∙ ap (λ d. add v (scale (pos (2 ^ k)) d)) p.is) so_far.so_far;
+          so_far = pushed ∙ written i v p.part end entries at p.there
+              (is ∙ ap (λ d. add v (scale (pos (2 ^ k)) d)) p.is) so_far.so_far;
           names_left = fewer ∙ p.names_after;
           parts_left = less ∙ p.parts_after;
         }
 
     -- a brick that is not named stays
-    pub stepped_still : (i : ℕ) (v entries next : Vector) (names next_names : List ℕ) (parts next_parts : Vector) → slice_get x i ≡ Some v →
-        (slice_get names 0 ≡ Some (i + 1) → ⊥) → next ≡ entries ++ v → next_names ≡ names → next_parts ≡ parts → SteppedUpTo i names parts entries →
+    pub stepped_still : (i : ℕ) (v entries next : Vector) (names next_names : List ℕ) (parts next_parts : Vector) →
+        slice_get x i ≡ Some v →
+        (slice_get names 0 ≡ Some (i + 1) → ⊥) → next ≡ entries ++ v → next_names ≡ names → next_parts ≡ parts →
+        SteppedUpTo i names parts entries →
         SteppedUpTo (i + 1) next_names next_parts next
-    stepped_still i v entries next names next_names parts next_parts at unnamed pushed names_kept parts_kept so_far = by (is_zero d) refl
+    stepped_still i v entries next names next_names parts next_parts at unnamed pushed names_kept parts_kept so_far =
+        by (is_zero d) refl
       where
         move : (d : Vector) × (slice_get h i ≡ Some d)
         move = there_at h i (omega (arith, slice_get_within x i v at, same))
@@ -187,10 +214,13 @@ module _ (t k : ℕ) (x h : Bricks) where
 
         by : (b : Bool) → is_zero d ≡ b → SteppedUpTo (i + 1) next_names next_parts next
         by true none =
-            let names_are : names ≡ nonzero_from (suc (suc i)) rest = so_far.names_left ∙ ap (nonzero_from (suc i)) here ∙ (named_zero i d rest none).0 in
-            let parts_are : parts ≡ nonzero_entries rest = so_far.parts_left ∙ ap nonzero_entries here ∙ (named_zero i d rest none).1 in
+            let names_are : names ≡ nonzero_from (suc (suc i)) rest =
+            so_far.names_left ∙ ap (nonzero_from (suc i)) here ∙ (named_zero i d rest none).0 in
+            let parts_are : parts ≡ nonzero_entries rest =
+            so_far.parts_left ∙ ap nonzero_entries here ∙ (named_zero i d rest none).1 in
             let width : length v ≡ length d = sized x i v wx at ∙ sym (sized h i d wh move.1) in
-            let nothing : scale (pos (2 ^ k)) d ≡ zeros (length d) = ap (scale (pos (2 ^ k))) (zeros_is d none) ∙ scale-zeros (pos (2 ^ k)) (length d) in
+            let nothing : scale (pos (2 ^ k)) d ≡ zeros (length d) =
+            ap (scale (pos (2 ^ k))) (zeros_is d none) ∙ scale-zeros (pos (2 ^ k)) (length d) in
             let still : v ≡ add v (scale (pos (2 ^ k)) d) = sym (ap (add v) nothing ∙ add_zeros v (length d) width) in
             record {
               so_far = pushed ∙ written i v d v entries at move.1 still so_far.so_far;
@@ -198,11 +228,13 @@ module _ (t k : ℕ) (x h : Bricks) where
               parts_left = parts_kept ∙ parts_are;
             }
         by false some =
-            let names_are : names ≡ suc i ∷ nonzero_from (suc (suc i)) rest = so_far.names_left ∙ ap (nonzero_from (suc i)) here ∙ (named_some i d rest some).0 in
+            let names_are : names ≡ suc i ∷ nonzero_from (suc (suc i)) rest =
+            so_far.names_left ∙ ap (nonzero_from (suc i)) here ∙ (named_some i d rest some).0 in
             absurd (unnamed (ap (λ ns. slice_get ns 0) names_are ∙ ap Some (sym number)))
 
     -- all bricks
-    pub stepped_all : (i : ℕ) (names : List ℕ) (parts entries : Vector) → length x ≤ i → SteppedUpTo i names parts entries → entries ≡ flat_map (λ v. v) (moved x k h)
+    pub stepped_all : (i : ℕ) (names : List ℕ) (parts entries : Vector) → length x ≤ i →
+        SteppedUpTo i names parts entries → entries ≡ flat_map (λ v. v) (moved x k h)
     stepped_all i names parts entries all so_far =
         let long : length (moved x k h) ≤ i = omega (arith, all, length-moved x h) in
         so_far.so_far ∙ ap (flat_map (λ (v : Vector). v)) (take_all i (moved x k h) long)

@@ -60,8 +60,8 @@ impl<'a> RunMenus<'a> {
         Ok(())
     }
 
-    /// The best step of `2^k` times a move, where it gains anything and the bound does not beat it. A length whose menus
-    /// are not kept gets its own. An error comes only where memory runs out.
+    /// The best step of `2^k` times a move, where it gains anything and the bound does not beat it. A length whose
+    /// menus are not kept gets its own. An error comes only where memory runs out.
     pub(crate) fn best_step<B: Bound>(
         &self,
         alloc: Global,

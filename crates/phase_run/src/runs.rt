@@ -36,7 +36,8 @@ pub fn run<R: Threads + Sync, G: Gate>(
     requires start { IsStart fold.now.program fold.now.phase point }
     requires least { 1 ≤ _workers }
     requires most { _workers ≤ 16 }
-    ensures run { IfOk result (λ e. IsRecorded fold.now.program fold.now.phase (vectors fold.now.sums) point e.made e.point) }
+    ensures run { IfOk result (λ e. IsRecorded fold.now.program fold.now.phase
+        (vectors fold.now.sums) point e.made e.point) }
     ensures few { IfOk result (λ e. length e.made.steps ≤ e.made.factor * binary_digits e.made.gain) }
 {
     prove!(fold.program().n() > 0);

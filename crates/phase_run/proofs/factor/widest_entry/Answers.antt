@@ -12,27 +12,36 @@ pub widest_of-requires-clause-width : goal.widest_of-requires-clause-width
 widest_of-requires-clause-width c =
     let f = c.args.fold.now in
     let program : IsProgram f.program = subst IsProgram c.program-program.ensures c.n.ensures.program in
-    let there = ap (λ (s : List Sum). slice_get (vectors s) c.loop-i.i) (sym c.sums-sums.ensures.sums) ∙ c.get.ensures.vector in
-    all_there (λ (w : Vector). length w ≡ f.program.brick.cols) (vectors f.sums) c.loop-i.i c.get.result.now c.sums-sums.ensures.fold.widths there
+    let there = ap (λ (s : List Sum). slice_get (vectors s) c.loop-i.i) (sym c.sums-sums.ensures.sums)
+    ∙ c.get.ensures.vector in
+    all_there (λ (w : Vector). length w ≡ f.program.brick.cols)
+    (vectors f.sums) c.loop-i.i c.get.result.now c.sums-sums.ensures.fold.widths there
     ∙ program.brick_shape.width ∙ ap (λ (p : Program). p.link.cols) (sym c.program-program.ensures)
 
 pub widest_of-requires-clause-image : goal.widest_of-requires-clause-image
 widest_of-requires-clause-image c =
     let f = c.args.fold.now in
-    let there = ap (λ (s : List Sum). slice_get (vectors s) c.loop-i.i) (sym c.sums-sums.ensures.sums) ∙ c.get.ensures.vector in
+    let there = ap (λ (s : List Sum). slice_get (vectors s) c.loop-i.i) (sym c.sums-sums.ensures.sums)
+    ∙ c.get.ensures.vector in
     subst (λ (p : Program). IsSmallImage p c.get.result.now) (sym c.program-program.ensures)
-    (all_there (IsSmallImage f.program) (vectors f.sums) c.loop-i.i c.get.result.now c.sums-sums.ensures.fold.images there)
+    (all_there (IsSmallImage f.program) (vectors f.sums) c.loop-i.i c.get.result.now c.sums-sums.ensures.fold.images
+    there)
 
 pub loop-i-preserved : goal.loop-i-preserved
 loop-i-preserved c =
     let f = c.args.fold.now in
-    let there = ap (λ (s : List Sum). slice_get (vectors s) c.loop-i.i) (sym c.sums-sums.ensures.sums) ∙ c.get.ensures.vector in
-    let entry : c.widest_of.result ≡ greatest (map unsigned_abs (c.get.result.now ++ product f.program.link c.get.result.now)) =
+    let there = ap (λ (s : List Sum). slice_get (vectors s) c.loop-i.i) (sym c.sums-sums.ensures.sums)
+    ∙ c.get.ensures.vector in
+    let entry : c.widest_of.result ≡ greatest (map unsigned_abs
+    (c.get.result.now ++ product f.program.link c.get.result.now)) =
     c.widest_of.ensures.widest
-    ∙ ap (λ (p : Program). greatest (map unsigned_abs (c.get.result.now ++ product p.link c.get.result.now))) c.program-program.ensures in
+    ∙ ap (λ (p : Program). greatest (map unsigned_abs (c.get.result.now ++ product p.link c.get.result.now)))
+    c.program-program.ensures in
     record {
       so_far =
-          greatest_more (λ (w : Vector). greatest (map unsigned_abs (w ++ product f.program.link w))) (vectors f.sums) c.loop-i.i c.loop-i.widest c.max-widest.result
-          c.get.result.now there (c.max-widest.ensures ∙ ap (λ n. max n c.loop-i.widest) entry) c.loop-i.invariant.so_far;
+          greatest_more (λ (w : Vector). greatest (map unsigned_abs (w ++ product f.program.link w)))
+          (vectors f.sums) c.loop-i.i c.loop-i.widest c.max-widest.result
+          c.get.result.now there (c.max-widest.ensures ∙ ap (λ n. max n c.loop-i.widest) entry)
+          c.loop-i.invariant.so_far;
       small = omega (arith, c.max-widest.ensures, c.widest_of.ensures.small);
     }

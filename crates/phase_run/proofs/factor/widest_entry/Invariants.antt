@@ -7,6 +7,7 @@ use Rattle.phase_run.proofs.factor.widest_entry.Given as goal
 
 abbrev pub invariant-loop-i : goal.invariant-loop-i
 invariant-loop-i l = record {
-  so_far : GreatestUpTo (λ w. greatest (map unsigned_abs (w ++ product l.fold.program.link w))) (vectors l.fold.sums) l.i l.widest;
+  so_far : GreatestUpTo (λ w. greatest (map unsigned_abs (w ++ product l.fold.program.link w)))
+      (vectors l.fold.sums) l.i l.widest;
   small : l.widest ≤ 2 ^ 63;
 }

@@ -9,5 +9,6 @@ link_residual-requires c =
     record {
       shape =
           subst (λ (p : Program). HasPointShape p c.args.point.now) (sym c.program-program.ensures)
-          (shape_of c.args.fold.now.program c.args.point.now (subst IsProgram c.program-program.ensures c.n.ensures.program) c.requires.within);
+          (shape_of c.args.fold.now.program c.args.point.now
+          (subst IsProgram c.program-program.ensures c.n.ensures.program) c.requires.within);
     }

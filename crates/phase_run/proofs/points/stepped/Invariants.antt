@@ -7,5 +7,6 @@ use Rattle.phase_run.proofs.points.stepped.Given as goal
 
 abbrev pub invariant-loop-i : goal.invariant-loop-i
 invariant-loop-i l =
-    (m : Move) → IsBest l.fold.program l.fold.phase (vectors l.fold.sums) l.point m → l.step ≡ step_at l.fold.program l.fold.phase l.point m →
+    (m : Move) → IsBest l.fold.program l.fold.phase (vectors l.fold.sums) l.point m →
+    l.step ≡ step_at l.fold.program l.fold.phase l.point m →
     SteppedUpTo l.fold.program.link.cols m.k l.point m.bricks l.i l.names l.parts l.entries.items

@@ -12,8 +12,10 @@ loop-k-preserved c =
     elim c.match-branch-2.branch [
       | in-Found w ↦
           subst (IsBestUpTo f x (c.loop-k.k + 1)) (sym w.best-is)
-          (round_found f x c.loop-k.k c.loop-k.best _ w.in-Found.step c.in_ok-step.field-0 bound c.loop-k.invariant c.in_ok-step.ensures.answer w.in-Found.is)
+          (round_found f x c.loop-k.k c.loop-k.best _ w.in-Found.step c.in_ok-step.field-0 bound c.loop-k.invariant
+          c.in_ok-step.ensures.answer w.in-Found.is)
       | in-Beaten w ↦
           subst (IsBestUpTo f x (c.loop-k.k + 1)) (sym w.best-is)
-          (round_beaten f x c.loop-k.k c.loop-k.best _ c.in_ok-step.field-0 bound c.loop-k.invariant c.in_ok-step.ensures.answer w.in-Beaten.is)
+          (round_beaten f x c.loop-k.k c.loop-k.best _ c.in_ok-step.field-0 bound c.loop-k.invariant
+          c.in_ok-step.ensures.answer w.in-Beaten.is)
     ]

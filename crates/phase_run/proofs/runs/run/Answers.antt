@@ -15,7 +15,8 @@ cost_in_phase-after-requires g c =
     let y = c.loop-steps.point in
     let program : IsProgram f.program = subst IsProgram c.program.ensures c.n.ensures.program in
     let rule : IsRuleStep f y (Some c.in-Some.step) = subst (IsRuleStep f y) c.in-Some.is c.in_ok-step.ensures in
-    (run_more f x y c.in_ok-next.next c.loop-steps.steps.items _ c.in-Some.step program c.requires.sums c.loop-steps.invariant.so_far rule c.in_ok-next.ensures refl).start
+    (run_more f x y c.in_ok-next.next c.loop-steps.steps.items _ c.in-Some.step program c.requires.sums
+    c.loop-steps.invariant.so_far rule c.in_ok-next.ensures refl).start
 
 pub loop-steps-smaller : goal.loop-steps-smaller
 loop-steps-smaller g c =
@@ -27,7 +28,8 @@ loop-steps-smaller g c =
     let lower = step_lowers f y c.in_ok-next.next c.in-Some.step rule c.in_ok-next.ensures in
     let after : FitsSigned w128 c.cost_in_phase-after.result = search rules in
     let now : FitsSigned w128 (to_z w128 c.loop-steps.after-bits) = search rules in
-    let less : c.cost_in_phase-after.result <ℤ to_z w128 c.loop-steps.after-bits = omega (arith, ints, lower, c.cost_in_phase-after.ensures, c.loop-steps.invariant.cost) in
+    let less : c.cost_in_phase-after.result <ℤ to_z w128 c.loop-steps.after-bits =
+    omega (arith, ints, lower, c.cost_in_phase-after.ensures, c.loop-steps.invariant.cost) in
     simp to_z-of_z (height_falls c.cost_in_phase-after.result (to_z w128 c.loop-steps.after-bits) after now less)
 
 pub loop-steps-preserved : goal.loop-steps-preserved
@@ -40,7 +42,8 @@ loop-steps-preserved g c =
     let after : FitsSigned w128 c.cost_in_phase-after.result = search rules in
     record {
       so_far =
-          run_more f x y c.in_ok-next.next c.loop-steps.steps.items c.push.new.self.items c.in-Some.step program c.requires.sums c.loop-steps.invariant.so_far rule
+          run_more f x y c.in_ok-next.next c.loop-steps.steps.items c.push.new.self.items c.in-Some.step program
+          c.requires.sums c.loop-steps.invariant.so_far rule
           c.in_ok-next.ensures c.in_ok-push.ensures.items;
       menus = c.in_ok-follow.ensures;
       cost = simp to_z-of_z c.cost_in_phase-after.ensures;
@@ -51,23 +54,27 @@ returns-clause-run g c =
     let f = c.args.fold.now in
     let x = c.args.point in
     let y = c.loop-steps.point in
-    let none : NoneAugments f.program f.phase (vectors f.sums) y = subst (IsRuleStep f y) c.in_default.is c.in_ok-step.ensures in
+    let none : NoneAugments f.program f.phase (vectors f.sums) y =
+    subst (IsRuleStep f y) c.in_default.is c.in_ok-step.ensures in
     let before : FitsSigned w128 c.cost_in_phase-before.result = search rules in
     let told = simp to_z-of_z at c.abs_diff.ensures in
     let gain : c.abs_diff.result ≡ unsigned_abs (phase_cost f.program f.phase x -ℤ phase_cost f.program f.phase y) =
     told ∙ (λ i. unsigned_abs (c.cost_in_phase-before.ensures i -ℤ c.loop-steps.invariant.cost i)) in
-    run_all f x y c.loop-steps.steps.items c.abs_diff.result c.bound_number.result c.loop-steps.invariant.so_far none gain c.bound_number.ensures
+    run_all f x y c.loop-steps.steps.items c.abs_diff.result c.bound_number.result c.loop-steps.invariant.so_far none
+    gain c.bound_number.ensures
 
 pub returns-clause-few : goal.returns-clause-few
 returns-clause-few g c =
     let f = c.args.fold.now in
     let x = c.args.point in
     let y = c.loop-steps.point in
-    let none : NoneAugments f.program f.phase (vectors f.sums) y = subst (IsRuleStep f y) c.in_default.is c.in_ok-step.ensures in
+    let none : NoneAugments f.program f.phase (vectors f.sums) y =
+    subst (IsRuleStep f y) c.in_default.is c.in_ok-step.ensures in
     let before : FitsSigned w128 c.cost_in_phase-before.result = search rules in
     let told = simp to_z-of_z at c.abs_diff.ensures in
     let gain : c.abs_diff.result ≡ unsigned_abs (phase_cost f.program f.phase x -ℤ phase_cost f.program f.phase y) =
     told ∙ (λ i. unsigned_abs (c.cost_in_phase-before.ensures i -ℤ c.loop-steps.invariant.cost i)) in
     let program : IsProgram f.program = subst IsProgram c.program.ensures c.n.ensures.program in
-    run_few f x y c.loop-steps.steps.items c.abs_diff.result c.bound_number.result program c.requires.sums c.requires.start c.loop-steps.invariant.so_far none gain
+    run_few f x y c.loop-steps.steps.items c.abs_diff.result c.bound_number.result program c.requires.sums
+    c.requires.start c.loop-steps.invariant.so_far none gain
     c.bound_number.ensures

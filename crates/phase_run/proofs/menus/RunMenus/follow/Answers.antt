@@ -9,7 +9,8 @@ loop-at-init c = record {
   targets = c.requires.menus.targets;
   few = c.requires.menus.few;
   size = cc (c.len-at-end.ensures, c.args.self.now.menus.ok.0);
-  menus = following_none c.args.fold.now c.args.before.now c.args.after.now c.args.self.now.menus.items c.requires.menus.each;
+  menus = following_none c.args.fold.now c.args.before.now c.args.after.now c.args.self.now.menus.items
+      c.requires.menus.each;
 }
 
 pub follow-requires-clause-menus : goal.follow-requires-clause-menus
@@ -29,7 +30,8 @@ loop-at-preserved c =
       few = omega (arith, size, c.loop-at.invariant.few);
       size = size ∙ c.loop-at.invariant.size;
       menus =
-          following_more c.args.fold.now c.args.before.now c.args.after.now menus _ c.loop-at.at c.follow.new.self c.in_ok-follow.ensures refl low
+          following_more c.args.fold.now c.args.before.now c.args.after.now menus _ c.loop-at.at c.follow.new.self
+          c.in_ok-follow.ensures refl low
           c.loop-at.invariant.menus;
     }
 
