@@ -1,0 +1,5 @@
+pub mod RowLists
+pub mod SumRows
+pub mod PlanLaws
+pub mod SolveLaws
+pub mod CertifyLaws
