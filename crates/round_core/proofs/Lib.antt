@@ -1,9 +1,9 @@
-mod Decided
+pub mod Decided
 mod Stands
 pub mod Order
-mod Places
-mod Kept
-mod Bounds
+pub mod Places
+pub mod Kept
+pub mod Bounds
 pub mod EachEvent
 pub mod Ends
 pub mod Gains

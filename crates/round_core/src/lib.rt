@@ -14,6 +14,7 @@ pub use laws::{
     a_settled_round_has_its_best_length, a_settled_round_names_the_best_by_its_gains,
     an_event_keeps_a_round_sound, an_event_keeps_the_gains,
 };
+pub use parts::{Fate, Stand};
 pub use state::State;
 
 #[cfg(test)]

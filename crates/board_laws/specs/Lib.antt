@@ -1,0 +1,4 @@
+pub mod Indexes
+pub mod Views
+pub mod Boards
+pub mod Closing
