@@ -1,8 +1,8 @@
 -- What a seat of a board knows, and how each kind of step changes it.
-use Rattle.std.specs.Prelude.{ℕ, zero, suc, ◌+◌, Bool, ◌&&◌, ◌||◌, not, nat_eq, nat_lt, cond, List, [], ◌∷◌, ◌++◌, map, Option, Some, None}
+use Rattle.std.specs.Prelude.{ℕ, suc, ◌+◌, ◌&&◌, not, nat_eq, nat_lt, cond, List, [], ◌∷◌, ◌++◌, map, Option, Some, None}
 use Rattle.std.specs.List.{Contains}
 use Rattle.round_core.specs.declared.parts.Fate.{Fate}
-use Rattle.round_core.specs.declared.parts.Fate.TheVariants.{Open, Offered, Beaten}
+use Rattle.round_core.specs.declared.parts.Fate.TheVariants.{Open, Beaten}
 use Rattle.round_core.specs.declared.parts.Stand.TheVariants.{Working, Finished, Joined}
 use Rattle.round_core.specs.Allowed.{is_live}
 use Rattle.round_core.specs.Steps.{joined_stand}

@@ -27,7 +27,7 @@ gains_set [] k l d same = refl
 gains_set (x ∷ ls) zero l d same = ap (λ g. g ∷ gains_in ls) same
 gains_set (x ∷ ls) (suc k) l d same = ap (λ gs. x.gain ∷ gs) (gains_set ls k l d same)
 
-gains_with : (r : Round) (k : ℕ) (l : Length) → l.gain ≡ gain_at r k → gains_of (with_length r k l) ≡ gains_of r
+pub gains_with : (r : Round) (k : ℕ) (l : Length) → l.gain ≡ gain_at r k → gains_of (with_length r k l) ≡ gains_of r
 gains_with r k l same = gains_set r.lengths k l (unclaimed None) same
 
 gains_handed : (from w : ℕ) (ls : List Length) → gains_in (map (handed_over from w) ls) ≡ gains_in ls

@@ -1,5 +1,5 @@
 pub mod Decided
-mod Stands
+pub mod Stands
 pub mod Order
 pub mod Places
 pub mod Kept
