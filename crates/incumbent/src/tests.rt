@@ -28,6 +28,9 @@ fn of_equal_gains_the_lesser_length_is_the_best(rt: HostRuntime) -> Result<(), F
     assert_eq!(rt; board.look(&mut first), Some(Key { gain: 5, k: 1 }));
     assert!(rt; board.offer(&mut first, Key { gain: 5, k: 0 }));
     assert_eq!(rt; board.look(&mut second), Some(Key { gain: 5, k: 0 }));
+    let None = board.claim(&mut first) else {
+        panic!(rt; "a third length was left")
+    };
     board.join(&mut first, second);
     assert_eq!(rt; board.close(first), Some(0));
     Ok(())

@@ -1,0 +1,3 @@
+mod Decisions
+mod Greatest
+pub mod AllGains
