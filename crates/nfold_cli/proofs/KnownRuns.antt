@@ -1,4 +1,4 @@
--- The texts of `solve` at the program of two bricks, worked by hand.
+-- The texts of `solve` and `trial` at the program of two bricks, worked by hand.
 use Rattle.std.specs.Prelude.{◌≡◌, true, false, List, [], ◌∷◌, ◌++◌, pos, neg_ℤ, Some, None, codes, refl}
 use Rattle.std.specs.Fmt.{digits}
 use Rattle.fold_theory.specs.declared.Phase.TheVariants.{Closed, Counted}
@@ -6,7 +6,8 @@ use Rattle.fold_theory.specs.declared.Verdict.TheVariants.{Optimal, InfeasibleBr
 use Rattle.run_theory.specs.declared.SolveFault.TheVariants as limit
 use Rattle.run_theory.specs.BrickRuns.{BrickMove}
 use Rattle.run_theory.specs.Outcomes.{Step, RunRecord, Outcome}
-use Rattle.nfold_cli.specs.RunTexts.{outcome_text, limit_text}
+use Rattle.cert_checker.specs.declared.answer.Check.TheVariants as check
+use Rattle.nfold_cli.specs.RunTexts.{outcome_text, trial_text, limit_text}
 
 abbrev four_down : BrickMove
 four_down = record { k = 2; vector = pos 0 ∷ pos 1 ∷ [] }
@@ -63,6 +64,11 @@ pub a_stuck_brick : outcome_text 2 true stuck ≡
     codes "brick 1 length 4 vector 0 1\nbrick 1 length 4 vector 1 0\ninfeasible brick 1 residual 1\n"
 unfolding digits
 a_stuck_brick = refl
+
+pub a_trial : trial_text 1 1 (Optimal (pos 6)) 0 (check.Yes (Optimal (pos 6)))
+    ≡ codes "trial number 1 bricks 1 optimal cost 6 made 0 check yes\n"
+unfolding digits
+a_trial = refl
 
 pub limits : limit_text limit.BrickBasis ++ limit_text (limit.LinkEntry 1 4) ++ limit_text limit.LinkBasis ++ limit_text
     (limit.Sums Counted) ++ limit_text (limit.Table Closed)

@@ -4,7 +4,7 @@ use Rattle.std.specs.Fmt.{digits}
 use Rattle.fold_theory.specs.declared.Broken.TheVariants.{Below, Above, BrickRow, LinkRow}
 use Rattle.mat_files.specs.declared.fault.MatFault.TheVariants as mat
 use Rattle.convex_costs.specs.declared.fault.CostFault.TheVariants as cost
-use Rattle.nfold_cli.specs.Words.{Word, PointForm, GraverForm, CheckForm, form_of}
+use Rattle.nfold_cli.specs.Words.{Word, PointForm, GraverForm, SolveForm, CheckForm, TrialForm, form_of}
 use Rattle.nfold_cli.specs.Texts.{point_text, at_byte, at_column, mat_fault_text, cost_fault_text, input_text, read_text}
 
 -- ---- words
@@ -39,6 +39,34 @@ graver_without_a_limit = refl
 pub graver_with_a_limit : form_of (graver_and (codes "--max-basis" ∷ codes "0008" ∷ [])) ≡ Some
     (GraverForm (codes "m") 8)
 graver_with_a_limit = refl
+
+abbrev solve_and : List Word → List Word
+solve_and rest = codes "solve" ∷ codes "t" ∷ rest
+
+pub solve_without_options : form_of (solve_and []) ≡ Some
+    (SolveForm (codes "t") (record { basis = 500; sums = 5000; relations = false; trace = false }))
+solve_without_options = refl
+
+pub solve_with_all_options :
+    form_of (solve_and (codes "--max-sums" ∷ codes "4" ∷ codes "--rel" ∷ codes "--max-basis" ∷ codes "07" ∷ codes
+    "--trace" ∷ []))
+    ≡ Some (SolveForm (codes "t") (record { basis = 7; sums = 4; relations = true; trace = true }))
+solve_with_all_options = refl
+
+pub a_trace_is_no_number : form_of (solve_and (codes "--max-sums" ∷ codes "--trace" ∷ [])) ≡ None
+a_trace_is_no_number = refl
+
+pub too_many_sums : form_of (solve_and (codes "--max-sums" ∷ codes "20001" ∷ [])) ≡ None
+too_many_sums = refl
+
+pub no_trace_twice : form_of (solve_and (codes "--trace" ∷ codes "--trace" ∷ [])) ≡ None
+no_trace_twice = refl
+
+pub trial_of_two_bricks : form_of (codes "trial" ∷ codes "65535" ∷ codes "2" ∷ []) ≡ Some (TrialForm 65535 2)
+trial_of_two_bricks = refl
+
+pub no_brick : form_of (codes "trial" ∷ codes "1" ∷ codes "0" ∷ []) ≡ None
+no_brick = refl
 
 pub greatest_limit : form_of (graver_and (codes "--max-basis" ∷ codes "2000" ∷ [])) ≡ Some (GraverForm (codes "m") 2000)
 greatest_limit = refl
@@ -85,8 +113,8 @@ check_with_relations = refl
 pub check_with_a_prefix : form_of (codes "check" ∷ codes "t" ∷ []) ≡ Some (CheckForm (codes "t") false)
 check_with_a_prefix = refl
 
-pub no_form_yet : form_of (codes "solve" ∷ codes "t" ∷ []) ≡ None
-no_form_yet = refl
+pub no_workers_yet : form_of (solve_and (codes "--workers" ∷ codes "2" ∷ [])) ≡ None
+no_workers_yet = refl
 
 pub another_case : form_of (codes "Point" ∷ codes "t" ∷ []) ≡ None
 another_case = refl

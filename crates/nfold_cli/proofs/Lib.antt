@@ -4,6 +4,9 @@ pub mod KnownRuns
 pub mod PrefixLaws
 pub mod WordLaws
 pub mod EndingLaws
+pub mod TraceLaws
+pub mod ShortLaws
+pub mod SolvedLaws
 pub mod AnswerLaws
 pub mod ReadLaws
 pub mod CommandLaws

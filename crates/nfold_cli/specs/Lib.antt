@@ -1,8 +1,11 @@
 pub mod Words
 pub mod Texts
 pub mod RunTexts
+pub mod SolvedTexts
 pub mod Endings
 pub mod PointCommand
+pub mod SolveCommand
+pub mod TrialCommand
 pub mod GraverCommand
 pub mod CheckCommand
 pub mod Forms

@@ -1,4 +1,4 @@
--- The texts of `solve`: the trace of the steps, the outcome, and the limits.
+-- The texts of `solve` and `trial`: the trace of the steps, the outcome, the line of a trial, and the limits.
 use Rattle.std.specs.Prelude.{ℕ, suc, ◌^◌, ℤ, List, [], ◌∷◌, ◌++◌, length, flat_map, take, drop, cond, Bool, Option, Some, None, codes}
 use Rattle.std.specs.Fmt.{decimal, signed_decimal}
 use Rattle.lattice_theory.specs.Vectors.{Vector}
@@ -13,6 +13,8 @@ use Rattle.run_theory.specs.BrickRuns.{BrickMove}
 use Rattle.run_theory.specs.Outcomes.{Step, RunRecord, Outcome}
 use Rattle.run_theory.specs.Digits.{binary_digits}
 use Rattle.mat_files.specs.MatrixText.{matrix_text}
+use Rattle.cert_checker.specs.declared.answer.Check.{Check}
+use Rattle.cert_checker.specs.declared.answer.Check.TheVariants as check
 use Rattle.nfold_cli.specs.Texts.{verdict_text, memory_text}
 
 -- the name of a phase
@@ -75,6 +77,19 @@ abbrev pub outcome_text : ℕ → Bool → Outcome → List ℕ
 outcome_text t trace o =
     cond trace (brick_runs_text 1 o.traces ++ run_text Counted t o.counted ++ run_text Closed t o.closed) []
     ++ answer_text t o.verdict o.point
+
+-- ---- a trial
+
+-- what the checker says
+abbrev pub answer_words : Check → List ℕ
+answer_words (check.Yes v) = codes " check yes\n"
+answer_words (check.No r) = codes " check no\n"
+
+-- the line of a trial: its number and its bricks, the verdict, the number of steps, and what the checker says
+abbrev pub trial_text : ℕ → ℕ → Verdict → ℕ → Check → List ℕ
+trial_text number bricks v made answer =
+    codes "trial number " ++ decimal number ++ codes " bricks " ++ decimal bricks ++ codes " " ++ verdict_text v
+    ++ codes " made " ++ decimal made ++ answer_words answer
 
 -- ---- the limits
 

@@ -6,18 +6,21 @@ ghost use Rattle.nfold_cli.specs.Words as specs;
 ghost use Rattle.nfold_cli.specs.Answers.{IsAnswer};
 
 use crate::answer::Answer;
-use crate::commands::{answer_check, answer_graver, answer_point};
+use crate::commands::{answer_check, answer_graver, answer_point, answer_solve, answer_trial};
 use crate::status::Status;
 use crate::texts::usage_text;
 use crate::words::{Form, form_of};
-use fold_shelf::Shelf;
+use fold_shelf::{Gate, Shelf};
 use std::alloc::{AllocError, Global};
+use std::thread::Threads;
 
 /// The answer to the words over the files of the shelf.
-pub(crate) fn answer_words<S: Shelf>(
+pub(crate) fn answer_words<R: Threads + Sync, S: Shelf, G: Gate>(
+    rt: &R,
     alloc: Global,
     words: &[Vec<u8>],
     shelf: &mut S,
+    gate: &G,
 ) -> Result<Answer, AllocError>
     ensures answer { IfOk result (IsAnswer (specs.form_of (map (λ w. w.items) words.now)) (S.seen shelf.old) (S.seen shelf.new)) }
     ensures reads { OnlyReads (S.seen shelf.old) (S.seen shelf.new) }
@@ -29,6 +32,10 @@ pub(crate) fn answer_words<S: Shelf>(
         }
         Some(Form::Point { prefix, relations }) => answer_point(alloc, shelf, prefix, relations),
         Some(Form::Graver { prefix, limit }) => answer_graver(alloc, shelf, prefix, limit),
+        Some(Form::Solve { prefix, options }) => {
+            answer_solve(rt, alloc, shelf, prefix, options, gate)
+        }
         Some(Form::Check { prefix, relations }) => answer_check(alloc, shelf, prefix, relations),
+        Some(Form::Trial { number, bricks }) => answer_trial(rt, alloc, number, bricks, gate),
     }
 }

@@ -23,20 +23,26 @@ use std::thread::Threads;
 /// before the first byte on `out`.
 ///
 /// `Usage` comes exactly where the words are no form, `Input` where a file is refused, in the order in which files are
-/// read, and `Limit` where the slack basis of `graver` passes its limit; `No` where the point is broken, or the certificate
-/// breaks a rule. `ReadFault` comes only where a file is missing or the shelf has counted a fault in this call,
-/// `WriteFault` only where `out` has, or the shelf on storing, and `Memory` may come at any time. A fault of `err` changes
-/// no answer. What a text on `out` says is true: where `point` ends with `Done`, the point is feasible and has the printed
-/// cost, and where with `No`, it is not feasible; where `check` ends with `Done`, the printed verdict is true of the
-/// program. No command starts a worker yet, so threads and the gate are not used.
+/// read, and `Limit` where the slack basis of `graver` passes its limit, or a solve passes one; `No` where the point is
+/// broken, or the certificate breaks a rule. `ReadFault` comes only where a file is missing or the shelf has counted a
+/// fault in this call, `WriteFault` only where `out` has, or the shelf on storing, and `Memory` may come at any time. A
+/// fault of `err` changes no answer.
+///
+/// What a text on `out` says is true. Where `point` ends with `Done`, the point is feasible and has the printed cost,
+/// and where with `No`, it is not feasible. Where `check` ends with `Done`, the printed verdict is true of the program.
+/// Where `solve` ends with `Done`, so is its verdict; the printed point is feasible, has the printed cost, and no
+/// feasible point costs less; and the stored certificate is one that `check` accepts. Where `trial` does, the verdict is
+/// true of the program that it has made, and the certificate accepted.
+///
+/// A solve has one worker as yet, so threads and the gate are only handed on.
 pub fn run<R: Threads + Sync, S: Shelf, K: Sink, E: Sink, G: Gate>(
-    _rt: &R,
+    rt: &R,
     alloc: Global,
     words: &[Vec<u8>],
     shelf: &mut S,
     out: &mut K,
     err: &mut E,
-    _gate: &G,
+    gate: &G,
 ) -> Status
     ensures form { AnswersForm (specs.form_of (map (λ w. w.items) words.now)) result }
     ensures ending { ForTold (S.seen shelf.old).files (λ fs. EndsWith (map (λ w. w.items) words.now) fs result) }
@@ -64,16 +70,18 @@ pub fn run<R: Threads + Sync, S: Shelf, K: Sink, E: Sink, G: Gate>(
     ensures outs { (K.seen out.old).faults ≤ (K.seen out.new).faults }
     ensures errs { (E.seen err.old).faults ≤ (E.seen err.new).faults }
 {
-    perform(alloc, words, shelf, out, err)
+    perform(rt, alloc, words, shelf, out, err, gate)
 }
 
 /// Makes the answer to the words, and gives it.
-fn perform<S: Shelf, K: Sink, E: Sink>(
+fn perform<R: Threads + Sync, S: Shelf, K: Sink, E: Sink, G: Gate>(
+    rt: &R,
     alloc: Global,
     words: &[Vec<u8>],
     shelf: &mut S,
     out: &mut K,
     err: &mut E,
+    gate: &G,
 ) -> Status
     ensures runs { Runs (map (λ w. w.items) words.now)
         (record { folder = S.seen shelf.old; out = K.seen out.old; err = E.seen err.old })
@@ -83,7 +91,7 @@ fn perform<S: Shelf, K: Sink, E: Sink>(
     ensures outs { (K.seen out.old).faults ≤ (K.seen out.new).faults }
     ensures errs { (E.seen err.old).faults ≤ (E.seen err.new).faults }
 {
-    match answer_words(alloc, words, shelf) {
+    match answer_words(rt, alloc, words, shelf, gate) {
         Ok(answer) => give(&answer, shelf, out, err),
         Err(_) => say(err, memory_text(), Status::Memory),
     }

@@ -100,7 +100,8 @@ fn line(alloc: Global, first: &[u8], rest: &[u8]) -> Result<Vec<u8>, AllocError>
     Ok(text)
 }
 
-fn verdict_text(alloc: Global, verdict: Verdict) -> Result<Vec<u8>, AllocError>
+/// The words of a verdict.
+pub(crate) fn verdict_text(alloc: Global, verdict: Verdict) -> Result<Vec<u8>, AllocError>
     ensures { IfOk result (λ t. t.items ≡ specs.verdict_text verdict) }
 {
     let text = Vec::new(alloc);
@@ -252,30 +253,42 @@ pub(crate) fn with_number<I: Integer>(
 #[cfg(test)]
 mod tests {
     use super::*;
+    use std::alloc::Alloc;
+    use std::process::Abort;
     use std::test::Fail;
+
+    /// Tests what is said of a point that costs -5.
+    fn expect_point(
+        rt: &(impl Abort + Alloc<A = Global>),
+        broken: Option<Broken>,
+        line: &str,
+    ) -> Result<(), Fail> {
+        let text = point_text(rt.alloc(), broken, -5)?;
+        assert_eq!(rt; text.as_slice(), line.as_bytes());
+        Ok(())
+    }
 
     #[test]
     fn point_says_what_is_broken(rt: HostRuntime) -> Result<(), Fail> {
-        let cases = [
-            (None, "feasible\ncost -5\n"),
-            (
-                Some(Broken::Below { brick: 1, col: 2 }),
-                "broken below brick 1 column 2\n",
-            ),
-            (
-                Some(Broken::Above { brick: 3, col: 4 }),
-                "broken above brick 3 column 4\n",
-            ),
-            (
-                Some(Broken::BrickRow { brick: 2, row: 1 }),
-                "broken brick 2 row 1\n",
-            ),
-            (Some(Broken::LinkRow { row: 1 }), "broken link row 1\n"),
-        ];
-        for (broken, line) in cases {
-            let text = point_text(rt.alloc(), broken, -5)?;
-            assert_eq!(rt; text.as_slice(), line.as_bytes());
-        }
+        let below = Broken::Below { brick: 1, col: 2 };
+        let above = Broken::Above { brick: 3, col: 4 };
+        let brick_row = Broken::BrickRow { brick: 2, row: 1 };
+        let link_row = Broken::LinkRow { row: 1 };
+        expect_point(&rt, None, "feasible\ncost -5\n")?;
+        expect_point(&rt, Some(below), "broken below brick 1 column 2\n")?;
+        expect_point(&rt, Some(above), "broken above brick 3 column 4\n")?;
+        expect_point(&rt, Some(brick_row), "broken brick 2 row 1\n")?;
+        expect_point(&rt, Some(link_row), "broken link row 1\n")
+    }
+
+    /// Tests the line on an answer of the checker.
+    fn expect_check(
+        rt: &(impl Abort + Alloc<A = Global>),
+        answer: Check,
+        line: &str,
+    ) -> Result<(), Fail> {
+        let text = check_text(rt.alloc(), answer)?;
+        assert_eq!(rt; text.as_slice(), line.as_bytes());
         Ok(())
     }
 
@@ -285,20 +298,33 @@ mod tests {
             brick: 2,
             residual: 17,
         };
-        for (answer, line) in [
-            (Check::Yes(brick), "yes infeasible brick 2 residual 17\n"),
-            (
-                Check::Yes(Verdict::Optimal { cost: -5 }),
-                "yes optimal cost -5\n",
-            ),
-            (Check::No(Rule::B2), "no B2\n"),
-        ] {
-            let text = check_text(rt.alloc(), answer)?;
-            assert_eq!(rt; text.as_slice(), line.as_bytes());
-        }
+        let optimal = Verdict::Optimal { cost: -5 };
+        expect_check(
+            &rt,
+            Check::Yes(brick),
+            "yes infeasible brick 2 residual 17\n",
+        )?;
+        expect_check(&rt, Check::Yes(optimal), "yes optimal cost -5\n")?;
+        expect_check(&rt, Check::No(Rule::B2), "no B2\n")
+    }
+
+    #[test]
+    fn a_refused_certificate_is_named_with_the_place(rt: HostRuntime) -> Result<(), Fail> {
         let (at, kind) = (40, CertKind::TooMany);
         let text = cert_fault_text(rt.alloc(), CertFault { at, kind })?;
         assert_eq!(rt; text.as_slice(), b"too-many at 40".as_slice());
+        Ok(())
+    }
+
+    /// Tests the line on a file with what is wrong with it.
+    fn expect_input(
+        rt: &(impl Abort + Alloc<A = Global>),
+        file: &str,
+        what: &[u8],
+        line: &str,
+    ) -> Result<(), Fail> {
+        let text = input_text(rt.alloc(), file.as_bytes(), what)?;
+        assert_eq!(rt; text.as_slice(), line.as_bytes());
         Ok(())
     }
 
@@ -306,28 +332,21 @@ mod tests {
     fn a_refused_file_is_named_with_the_place(rt: HostRuntime) -> Result<(), Fail> {
         let alloc = rt.alloc();
         let bound = mat_fault_text(alloc, MatFault::NoBound { at: 6 })?;
+        expect_input(&rt, "t.lb", &bound, "input: t.lb: no-bound at 6\n")?;
         let slope = cost_fault_text(alloc, 1, 1, CostFault::SlopeNotWhole { at: 2 })?;
+        expect_input(
+            &rt,
+            "t.cost",
+            &slope,
+            "input: t.cost: slope-not-whole at brick 1 column 1 point 2\n",
+        )?;
         let crossed = at_column(alloc, b"crossed", 2, 1)?;
-        let syntax = at_byte(alloc, b"syntax", 17)?;
-        let cases = [
-            ("t.lb", bound.as_slice(), "input: t.lb: no-bound at 6\n"),
-            (
-                "t.cost",
-                slope.as_slice(),
-                "input: t.cost: slope-not-whole at brick 1 column 1 point 2\n",
-            ),
-            (
-                "t.ub",
-                crossed.as_slice(),
-                "input: t.ub: crossed at brick 2 column 1\n",
-            ),
-            ("t.cost", syntax.as_slice(), "input: t.cost: syntax at 17\n"),
-        ];
-        for (file, what, line) in cases {
-            let text = input_text(alloc, file.as_bytes(), what)?;
-            assert_eq!(rt; text.as_slice(), line.as_bytes());
-        }
-        Ok(())
+        expect_input(
+            &rt,
+            "t.ub",
+            &crossed,
+            "input: t.ub: crossed at brick 2 column 1\n",
+        )
     }
 
     #[test]

@@ -1,7 +1,12 @@
 use Rattle.std.proofs.Common.{map, inl}
 use Rattle.nfold_cli.specs.Words.{form_of}
-use Rattle.nfold_cli.proofs.GiveLaws.{answer_after, gives_before}
+use Rattle.nfold_cli.proofs.GiveLaws.{answer_after, ending_of_form, gives_before}
 use Rattle.nfold_cli.proofs.running.perform.Goals as goal
+
+pub give-requires : goal.give-requires
+give-requires g c =
+    ending_of_form (form_of (map (λ w. w.items) c.args.words.now)) c.in-Ok.answer.status
+    c.in-Ok.ensures.answer.status
 
 pub returns-in-Ok-clause-runs : goal.returns-in-Ok-clause-runs
 returns-in-Ok-clause-runs g c =
