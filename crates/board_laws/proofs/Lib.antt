@@ -12,3 +12,4 @@ pub mod Joins
 pub mod Reached
 pub mod Tells
 pub mod Ends
+mod KnownValues
