@@ -1,3 +1,4 @@
+pub mod CostLaws
 pub mod TableLaws
 pub mod EndLaws
 pub mod RowLaws

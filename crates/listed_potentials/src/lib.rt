@@ -3,6 +3,7 @@
 
 mod changes;
 mod columns;
+mod costs;
 mod ends;
 mod layers;
 
