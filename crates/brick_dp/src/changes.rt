@@ -1,13 +1,12 @@
 //! What the moves of one brick change the cost by.
 
-ghost use Rattle.std.specs.Prelude.{◌≡◌, ◌<◌, ◌≤◌, length, unsigned_abs, IfOk};
-ghost use Rattle.fold_theory.specs.Programs.{IsWithin, brick_cost};
+ghost use Rattle.std.specs.Prelude.{◌≡◌, ◌<◌, ◌≤◌, length, IfOk};
+ghost use Rattle.fold_theory.specs.Programs.{IsWithin};
 ghost use Rattle.fold_program.specs.Places.{OfBrick};
-ghost use Rattle.fold_program.specs.Refusals.{brick_magnitude};
 ghost use Rattle.brick_dp.specs.Changes.{IsChange, ForBrick};
 
 use crate::folds::Fold;
-use fold_program::{Phase, Program};
+use fold_program::Phase;
 use std::alloc::{AllocError, Global};
 use step_targets::target;
 
@@ -36,23 +35,6 @@ pub(crate) fn change(
     };
     match fold.phase() {
         Phase::Counted => Ok(Some(0)),
-        Phase::Closed => Ok(Some(cost_of(program, brick, &end) - cost_of(program, brick, at))),
+        Phase::Closed => Ok(Some(program.brick_cost(brick, &end) - program.brick_cost(brick, at))),
     }
-}
-
-/// The cost of a brick at a vector within its bounds: at most the magnitude of its costs.
-fn cost_of(program: &Program, brick: u32, vector: &[i64]) -> i128
-    requires from { 1 ≤ brick }
-    requires to { brick ≤ length program.now.bricks }
-    requires width { length vector.now ≡ program.now.link.cols }
-    requires within { ForBrick program.now brick (λ b. IsWithin b vector.now) }
-    ensures cost { OfBrick program.now brick (λ b. result ≡ brick_cost b vector.now) }
-    ensures small { OfBrick program.now brick (λ b. unsigned_abs result ≤ brick_magnitude b) }
-{
-    prove!(brick <= program.n());
-    let mut cost = 0i128;
-    for col in 1..=program.t() {
-        cost += program.cost_at(brick, col, vector[col as usize - 1]);
-    }
-    cost
 }

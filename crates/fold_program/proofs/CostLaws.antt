@@ -21,6 +21,7 @@ use Rattle.fold_program.proofs.ScanLaws.{flat}
 use Rattle.fold_program.proofs.AcceptLaws.{magnitudes_all, length-map}
 use Rattle.fold_program.proofs.BreakLaws.{drop-there}
 use Rattle.fold_program.proofs.ViewLaws.{same_some}
+use Rattle.fold_program.proofs.PlaceLaws.{brick_in_total}
 
 -- ---- the widest bounds
 
@@ -212,6 +213,10 @@ column_inside p i j cs P b column =
     let lower : slice_get (map (λ (c : BoundedCost). c.lower) cs) (j - 1) ≡ Some column.1 = sym (ap (λ (d : Brick). slice_get d.lower (j - 1)) same ∙ ap (λ v. slice_get v (j - 1)) b.2.lower) ∙ column.5 in
     let within = slice_get_within (map (λ (c : BoundedCost). c.lower) cs) (j - 1) column.1 lower in
     omega (arith, within, length-map (λ (c : BoundedCost). c.lower) cs)
+
+-- the costs of one brick are few enough to be added up
+pub few_of_brick : (p : Program) (i : ℕ) (cs : List BoundedCost) → total_magnitude p ≤ 2 ^ 120 → OfBrick p i (λ b. AreCostsOf b cs) → sum_by cost_magnitude cs ≤ 2 ^ 120
+few_of_brick p i cs total brick = omega (arith, total, brick_in_total p.bricks (i - 1) brick.0 brick.1, brick_magnitude_is brick.0 cs brick.2)
 
 -- the cost so far, the cost of the next brick, and what the magnitudes leave for the others
 pub record IsNextCost (p : Program) (i : ℕ) (so_far here : ℤ) : Type 0 where

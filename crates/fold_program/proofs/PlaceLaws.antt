@@ -1,9 +1,16 @@
--- The columns of a program, by their bounds.
-use Rattle.std.proofs.Common.{◌≡◌, ℕ, ◌-◌, ◌<◌, ℤ, pos, length, get_or, ◌∙◌, arith, sym, subst, Some, slice_get}
+-- One brick of a program, by its number, and its columns, by their bounds.
+use Rattle.std.proofs.Common.{◌≡◌, ℕ, ◌-◌, ◌^◌, ◌<◌, ◌≤◌, ℤ, ◌≤ℤ◌, int_le, true, pos, unsigned_abs, List, [], ◌∷◌, length, sum_by, get_or, ◌∙◌, ap, arith, sym, subst, All, Option, Some, slice_get}
+use Rattle.std.specs.List.{AllZip}
+use Rattle.std.proofs.lemmas.Bool.{and_parts}
+use Rattle.std.proofs.lemmas.Int.{ints}
+use Rattle.lattice_theory.specs.Lists.{all_zip}
+use Rattle.lattice_theory.specs.Vectors.{Vector}
+use Rattle.std.proofs.lemmas.List.Sums.{sum_by_more_le}
 use Rattle.std.proofs.lemmas.Option.{slice_get_within, slice_get-get_or, get_or_from_slice_get}
 use Rattle.fold_theory.specs.declared.Cost.{Cost}
 use Rattle.fold_theory.specs.declared.Cost.TheVariants.{Quadratic}
-use Rattle.fold_theory.specs.Programs.{Program, Brick, IsBrick, IsProgram}
+use Rattle.fold_theory.specs.Programs.{Program, Brick, IsBrick, IsProgram, IsWithin, is_within}
+use Rattle.fold_program.specs.Refusals.{brick_magnitude, total_magnitude}
 use Rattle.fold_program.specs.Places.{OfBrick, OfColumn}
 use Rattle.fold_program.proofs.ViewLaws.{same_some}
 
@@ -12,6 +19,45 @@ pub brick_fits : (p : Program) (i : ℕ) (b : Brick) → IsProgram p → slice_g
 brick_fits p i b program there =
     subst (IsBrick p.link.cols (length p.brick.rows)) (get_or_from_slice_get p.bricks i b b there)
     (program.each_brick i b (slice_get_within p.bricks i b there))
+
+-- at one place there is one brick
+pub same_brick : (o : Option Brick) (a b : Brick) → o ≡ Some a → o ≡ Some b → a ≡ b
+same_brick o a b p q = cc
+
+-- there is a brick of each number, and it fits
+pub brick_there : (p : Program) (i : ℕ) → IsProgram p → 1 ≤ i → i ≤ length p.bricks →
+    (b : Brick) × (slice_get p.bricks (i - 1) ≡ Some b) × IsBrick p.link.cols (length p.brick.rows) b
+brick_there p i program from to = by p.bricks (i - 1) (omega arith) program.each_brick
+  where
+    by : (bs : List Brick) (k : ℕ) → k < length bs → All (IsBrick p.link.cols (length p.brick.rows)) bs →
+        (b : Brick) × (slice_get bs k ≡ Some b) × IsBrick p.link.cols (length p.brick.rows) b
+    by [] k low fit = absurd (omega arith)
+    by (b ∷ bs) k low fit = (get_or (b ∷ bs) k b, slice_get-get_or (b ∷ bs) k b low, fit k b low)
+
+-- the magnitude of one brick is at most that of all
+pub brick_in_total : (bs : List Brick) (k : ℕ) (b : Brick) → slice_get bs k ≡ Some b → brick_magnitude b ≤ sum_by brick_magnitude bs
+brick_in_total bs k b there =
+    let whole = sum_by_more_le brick_magnitude bs k b (slice_get_within bs k b there) in
+    omega (arith, whole, ap brick_magnitude (get_or_from_slice_get bs k b b there))
+
+-- what is at most the magnitude of a brick is at most 2 ^ 120
+pub small_in_total : (p : Program) (i : ℕ) (a : ℤ) → total_magnitude p ≤ 2 ^ 120 → OfBrick p i (λ b. unsigned_abs a ≤ brick_magnitude b) → unsigned_abs a ≤ 2 ^ 120
+small_in_total p i a most found = omega (arith, most, found.2, brick_in_total p.bricks (i - 1) found.0 found.1)
+
+-- the test and the fact that a vector is within the bounds
+pub within_is : (b : Brick) (v : Vector) → is_within b v ≡ true → IsWithin b v
+within_is b v inside =
+    let parts = and_parts (all_zip int_le b.lower v) (all_zip int_le v b.upper) inside in
+    (over b.lower v parts.0, over v b.upper parts.1)
+  where
+    at_most : (a b : ℤ) → int_le a b ≡ true → a ≤ℤ b
+    at_most a b h = grind (arith, ints)
+
+    over : (u w : Vector) → all_zip int_le u w ≡ true → AllZip ◌≤ℤ◌ u w
+    over [] [] h = tt
+    over [] (b ∷ w) h = absurd (cc)
+    over (a ∷ u) [] h = absurd (cc)
+    over (a ∷ u) (b ∷ w) h = let p = and_parts (int_le a b) (all_zip int_le u w) h in (at_most a b p.0, over u w p.1)
 
 -- a column with these bounds has a cost
 pub column_of_bounds : (p : Program) (i j : ℕ) (l u : ℤ) (P : ℤ → ℤ → Cost → Type 0) → IsProgram p →

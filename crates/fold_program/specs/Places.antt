@@ -9,6 +9,10 @@ use Rattle.fold_program.specs.Faults.{IsBoundedRow}
 abbrev pub OfBrick : Program → ℕ → (Brick → Type 0) → Type 0
 OfBrick p i P = (b : Brick) × (slice_get p.bricks (i - 1) ≡ Some b) × P b
 
+-- this holds of the brick of this number, from 1, if there is one
+abbrev pub ForBrick : Program → ℕ → (Brick → Type 0) → Type 0
+ForBrick p i P = (b : Brick) → slice_get p.bricks (i - 1) ≡ Some b → P b
+
 -- each bound of the brick is at most 2 ^ 62 in absolute value
 abbrev pub HasBoundedSides : Brick → Type 0
 HasBoundedSides b = IsBoundedRow b.lower × IsBoundedRow b.upper

@@ -1,4 +1,3 @@
-pub mod CostLaws
 pub mod TableLaws
 pub mod EndLaws
 pub mod RowLaws

@@ -1,5 +1,5 @@
 -- Lists that are made one after the other, and facts of one brick.
-use Rattle.std.proofs.Common.{◌≡◌, ℕ, zero, suc, ◌+◌, ◌-◌, ◌<◌, ◌≤◌, ◌^◌, ℤ, ◌-ℤ◌, ◌≤ℤ◌, int_le, unsigned_abs, Bool, true, false, not, ◌&&◌, List, [], ◌∷◌, ◌++◌, length, map, take, drop, get_or, Option, Some, None, cond, refl, ap, arith, sym, ◌∙◌, subst, slice_get, option_map, All, IfSome, pos}
+use Rattle.std.proofs.Common.{◌≡◌, ℕ, zero, suc, ◌+◌, ◌-◌, ◌<◌, ◌≤◌, ◌^◌, ℤ, ◌-ℤ◌, ◌≤ℤ◌, unsigned_abs, Bool, true, false, not, ◌&&◌, List, [], ◌∷◌, ◌++◌, length, map, take, drop, get_or, Option, Some, None, cond, refl, ap, arith, sym, ◌∙◌, subst, slice_get, option_map, All, IfSome, pos}
 use Rattle.std.proofs.lemmas.Int.{ints}
 use Rattle.std.proofs.lemmas.List.{drop_all, take_all, take_more, map_more, map_push, length-map, get_or-map}
 use Rattle.std.proofs.lemmas.List.Elements.{All-push, All-from_recursion, recursion_from_All}
@@ -9,7 +9,6 @@ use Rattle.fold_theory.specs.declared.Phase.TheVariants.{Closed}
 use Rattle.lattice_theory.specs.Lists.{all_zip, zip_with}
 use Rattle.lattice_theory.specs.Vectors.{Vector, add, zeros}
 use Rattle.std.specs.List.{AllZip, AllByRecursion}
-use Rattle.lattice_laws.proofs.Tests.{and_true}
 use Rattle.fold_theory.specs.Programs.{Program, Brick, Bricks, IsWithin, is_within, brick_cost}
 use Rattle.run_theory.specs.Walks.{brick_change}
 use Rattle.run_theory.specs.Checker.{at_most, potential_of, layers_hold, starts_at_zero}
@@ -22,7 +21,7 @@ use Rattle.listed_potentials.specs.Places.{ForBrick}
 use Rattle.listed_potentials.specs.Moves.{change_of, changes_of, all_changes, places_of, there, move_holds, row_holds}
 use Rattle.listed_potentials.specs.Columns.{cell, column_holds, columns_hold}
 use Rattle.listed_potentials.specs.Ends.{ends_hold}
-use Rattle.listed_potentials.proofs.CostLaws.{same_brick, small_in_total}
+use Rattle.fold_program.proofs.PlaceLaws.{same_brick, small_in_total}
 use Rattle.listed_potentials.proofs.TableLaws.{potential_there, last_row, layers-test}
 
 -- ---- lists
@@ -145,21 +144,6 @@ module _ {A B : Type 0} (test : A → B → Bool) where
   pub zip-end : (xs : List A) (ys : List B) (i : ℕ) → length xs ≤ i → length ys ≤ i →
       all_zip test (drop i xs) (drop i ys) ≡ true
   zip-end xs ys i past over = (λ k. all_zip test (drop_all i xs past k) (drop_all i ys over k))
-
--- the test and the fact that a vector is within the bounds
-pub within_is : (b : Brick) (v : Vector) → is_within b v ≡ true → IsWithin b v
-within_is b v inside =
-    let parts = and_true (all_zip int_le b.lower v) (all_zip int_le v b.upper) inside in
-    (over b.lower v parts.0, over v b.upper parts.1)
-  where
-    at_most : (a b : ℤ) → int_le a b ≡ true → a ≤ℤ b
-    at_most a b h = grind (arith, ints)
-
-    over : (u w : Vector) → all_zip int_le u w ≡ true → AllZip ◌≤ℤ◌ u w
-    over [] [] h = tt
-    over [] (b ∷ w) h = absurd (cc)
-    over (a ∷ u) [] h = absurd (cc)
-    over (a ∷ u) (b ∷ w) h = let p = and_true (int_le a b) (all_zip int_le u w) h in (at_most a b p.0, over u w p.1)
 
 -- a move that leads to no listed sum holds
 pub nowhere : (here change : Option ℤ) → move_holds here change None ≡ true

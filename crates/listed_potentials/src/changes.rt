@@ -8,7 +8,6 @@ ghost use Rattle.listed_sums.specs.Places.{vectors_of, IsModest};
 ghost use Rattle.listed_potentials.specs.Moves.{change_of, changes_of};
 ghost use Rattle.listed_potentials.specs.Places.{ForBrick};
 
-use crate::costs::cost_of;
 use fold_program::{Phase, Program};
 use listed_sums::vector_of;
 use mat_files::Matrix;
@@ -63,6 +62,6 @@ fn change(program: &Program, phase: Phase, brick: u32, at: &[i64], to: &[i64]) -
     }
     match phase {
         Phase::Counted => Some(0),
-        Phase::Closed => Some(cost_of(program, brick, to) - cost_of(program, brick, at)),
+        Phase::Closed => Some(program.brick_cost(brick, to) - program.brick_cost(brick, at)),
     }
 }

@@ -3,7 +3,6 @@
 
 mod changes;
 mod columns;
-mod costs;
 mod ends;
 mod layers;
 

@@ -4,9 +4,10 @@ ghost use Rattle.std.specs.Prelude.{◌≡◌, ◌≤◌, ◌-◌, ◌^◌, ◌-
 ghost use Rattle.std.specs.List.{AllZip};
 ghost use Rattle.lattice_theory.specs.Lists.{greatest, zip_with, sum_zip};
 ghost use Rattle.fold_theory.specs.Costs.{value, magnitude};
-ghost use Rattle.fold_theory.specs.Programs.{AreWithin, cost, dist, link_miss, link_rests, widest};
+ghost use Rattle.fold_theory.specs.Programs.{AreWithin, IsWithin, brick_cost, cost, dist, link_miss, link_rests, widest};
 ghost use Rattle.fold_program.specs.Points.{HasPointShape};
-ghost use Rattle.fold_program.specs.Places.{OfBrick, OfColumn, OfRow};
+ghost use Rattle.fold_program.specs.Refusals.{brick_magnitude};
+ghost use Rattle.fold_program.specs.Places.{ForBrick, OfBrick, OfColumn, OfRow};
 ghost use Rattle.fold_program.specs.Bounds.{AreCostsOf, cost_magnitude};
 
 use crate::point::Point;
@@ -74,6 +75,18 @@ impl Program {
         ensures small { OfColumn self.now brick col (λ lower upper cost. unsigned_abs result ≤ magnitude cost lower upper) }
     {
         self.costs_of(brick)[col as usize - 1].value(v)
+    }
+
+    /// The cost of a brick at a vector within its bounds: at most the magnitude of the brick's costs in absolute value.
+    pub fn brick_cost(&self, brick: u32, vector: &[i64]) -> i128
+        requires from { 1 ≤ brick }
+        requires to { brick ≤ length self.now.bricks }
+        requires within { ForBrick self.now brick (λ b. IsWithin b vector.now) }
+        ensures cost { OfBrick self.now brick (λ b. result ≡ brick_cost b vector.now) }
+        ensures small { OfBrick self.now brick (λ b. unsigned_abs result ≤ brick_magnitude b) }
+    {
+        prove!(brick <= self.n());
+        cost_of(self.costs_of(brick), vector)
     }
 
     /// The cost of the point, which lies within the bounds: the sum over all bricks and columns, at most `2^120` in absolute

@@ -110,6 +110,18 @@ fn cost_within(program: &Program, brick: u32, col: u32, v: i64) -> Option<i128>
     Some(program.cost_at(brick, col, v))
 }
 
+/// The cost of a brick at a vector, where that is within the brick's bounds.
+fn brick_cost_within(program: &Program, brick: u32, vector: [i64; 2]) -> Option<i128>
+    requires from { 1 ≤ brick }
+    requires to { brick ≤ length program.now.bricks }
+    requires width { program.now.link.cols ≡ 2 }
+{
+    if !program.is_within(brick, vector.as_slice()) {
+        return None;
+    }
+    Some(program.brick_cost(brick, vector.as_slice()))
+}
+
 /// The point with these entries, brick by brick.
 fn point(program: &Program, entries: Vec<i64>) -> Option<Point>
     ensures { IfSome result (HasPointShape program.now) }
@@ -259,6 +271,17 @@ fn each_column_has_a_cost_within_its_bounds(rt: HostRuntime) -> Result<(), Fail>
 }
 
 #[test]
+fn a_brick_costs_what_its_columns_cost(rt: HostRuntime) -> Result<(), Fail> {
+    let program = program(rt.alloc())?;
+    assert_eq!(rt; program.n(), 2);
+    assert_eq!(rt; program.t(), 2);
+    assert_eq!(rt; brick_cost_within(&program, 1, [3, 2]), Some(9));
+    assert_eq!(rt; brick_cost_within(&program, 2, [4, 0]), Some(16));
+    assert_eq!(rt; brick_cost_within(&program, 2, [4, 5]), None);
+    Ok(())
+}
+
+#[test]
 fn the_best_point_costs_five(rt: HostRuntime) -> Result<(), Fail> {
     let program = program(rt.alloc())?;
     let point = point(&program, [1, 3, 2, 2].to_vec(rt.alloc())?).expect(&rt, "a point");
@@ -273,7 +296,7 @@ fn the_best_point_costs_five(rt: HostRuntime) -> Result<(), Fail> {
 }
 
 #[test]
-fn the_first_fault_of_the_parts_is_named(rt: HostRuntime) -> Result<(), Fail> {
+fn a_missing_cost_is_a_wrong_shape(rt: HostRuntime) -> Result<(), Fail> {
     let alloc = rt.alloc();
     let three = vec![in alloc; multiple(1), multiple(0), multiple(1)]?;
     let short = parts_with(alloc, [0; 4], [4; 4], three)?;
@@ -281,16 +304,26 @@ fn the_first_fault_of_the_parts_is_named(rt: HostRuntime) -> Result<(), Fail> {
         file: FileKind::Costs,
     };
     assert_eq!(rt; Program::new(alloc, short).err(), Some(shape));
+    Ok(())
+}
+
+#[test]
+fn crossed_bounds_are_named_before_costs(rt: HostRuntime) -> Result<(), Fail> {
     let crossed = ProgramFault::CrossedBounds { brick: 2, col: 1 };
-    let faults = fault_of(alloc, [0, 0, 3, 0], [4, 4, 2, 4], [-1, 0, 1, 0])?;
-    assert_eq!(rt; faults, Some(crossed));
+    let fault = fault_of(rt.alloc(), [0, 0, 3, 0], [4, 4, 2, 4], [-1, 0, 1, 0])?;
+    assert_eq!(rt; fault, Some(crossed));
+    Ok(())
+}
+
+#[test]
+fn the_first_refused_cost_is_named(rt: HostRuntime) -> Result<(), Fail> {
     let falls = ProgramFault::Cost {
         brick: 1,
         col: 2,
         fault: CostFault::NotConvex { at: 0 },
     };
-    let faults = fault_of(alloc, [0; 4], [4; 4], [1, -1, -1, 0])?;
-    assert_eq!(rt; faults, Some(falls));
+    let fault = fault_of(rt.alloc(), [0; 4], [4; 4], [1, -1, -1, 0])?;
+    assert_eq!(rt; fault, Some(falls));
     Ok(())
 }
 

@@ -3,7 +3,7 @@ use Rattle.lattice_theory.specs.Vectors.{Vector, add}
 use Rattle.listed_sums.specs.Places.{vectors_of}
 use Rattle.listed_sums.proofs.RowLaws.{length-vectors_of}
 use Rattle.listed_potentials.specs.Moves.{change_of}
-use Rattle.listed_potentials.proofs.CostLaws.{brick_there}
+use Rattle.fold_program.proofs.PlaceLaws.{brick_there}
 use Rattle.listed_potentials.proofs.RowLaws.{for_brick, next-image, all-images, all-next}
 use Rattle.listed_potentials.proofs.changes.changes.Goals as goal
 
