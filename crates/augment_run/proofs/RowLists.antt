@@ -1,20 +1,18 @@
 -- Lists of rows, one after the other.
 use Rattle.std.proofs.Common.{◌≡◌, ℕ, zero, suc, ◌+◌, ◌-◌, ◌*◌, ◌^◌, ◌≤◌, ℤ, ◌≤ℤ◌, unsigned_abs, Bool, true, List, [], ◌∷◌, ◌++◌, length, take, drop, get_or, refl, ap, arith, sym, ◌∙◌, subst, Some, Option, slice_get, All, IsTrue, flat_map, append-nil, length-append, IsTrue}
 use Rattle.std.specs.List.{AllZip, AllByRecursion, filter}
-use Rattle.std.proofs.lemmas.Int.{ints}
-use Rattle.std.proofs.lemmas.Bool.Decides.{nat_tests}
 use Rattle.std.proofs.lemmas.Grind.{flat_map-append}
 use Rattle.std.proofs.lemmas.List.{take_more, take_all, length-map}
 use Rattle.std.proofs.lemmas.List.Sums.{length-filter, count_by-le-length}
 use Rattle.std.proofs.lemmas.List.Elements.{All-nil, All-cons, All-append, length_all_zip, recursion_from_All}
 use Rattle.std.proofs.lemmas.Option.{slice_get_within, get_or_from_slice_get}
-use Rattle.lattice_theory.specs.Vectors.{Vector, is_bounded, is_zero}
+use Rattle.lattice_theory.specs.Vectors.{Vector, is_bounded, is_zero, IsBoundedRow}
 use Rattle.lattice_theory.specs.Matrices.{rows_of}
 use Rattle.lattice_theory.specs.Lattices.{kernel}
 use Rattle.fold_theory.specs.Programs.{Program, Brick, IsBrick, IsProgram, IsWithin}
 use Rattle.run_theory.specs.Certificates.{table_rows}
-use Rattle.fold_program.specs.Faults.{IsBoundedRow}
 use Rattle.fold_program.specs.Places.{OfBrick, HasBoundedSides}
+use Rattle.fold_program.proofs.PointLaws.{vector_bounded}
 
 -- the rows so far and one more
 pub flat_more : {A : Type 0} (rows : List (List A)) (i : ℕ) (row entries : List A) → slice_get rows i ≡ Some row →
@@ -94,30 +92,9 @@ point_more x i v entries there small up = record {
 
 -- ---- vectors within bounds that are at most 2 ^ 62
 
-between_bounded : (l a u : ℤ) → is_bounded l ≡ true → is_bounded u ≡ true → l ≤ℤ a → a ≤ℤ u → is_bounded a ≡ true
-between_bounded l a u low high above below =
-    let from : unsigned_abs l ≤ 2 ^ 62 = small l low in
-    let to : unsigned_abs u ≤ 2 ^ 62 = small u high in
-    large a (omega (arith, ints, from, to, above, below))
-  where
-    small : (x : ℤ) → is_bounded x ≡ true → unsigned_abs x ≤ 2 ^ 62
-    small x h = grind (arith, nat_tests)
-
-    large : (x : ℤ) → unsigned_abs x ≤ 2 ^ 62 → is_bounded x ≡ true
-    large x h = grind (arith, nat_tests)
-
-between : (lower v upper : Vector) → AllByRecursion (λ a. IsTrue (is_bounded a)) lower → AllByRecursion (λ a. IsTrue (is_bounded a)) upper →
-    AllZip ◌≤ℤ◌ lower v → AllZip ◌≤ℤ◌ v upper → IsBoundedRow v
-between lower [] upper low high above below = All-nil (λ a. IsTrue (is_bounded a))
-between [] (a ∷ v) upper low high above below = absurd above
-between (l ∷ lower) (a ∷ v) [] low high above below = absurd below
-between (l ∷ lower) (a ∷ v) (u ∷ upper) low high above below =
-    All-cons (λ b. IsTrue (is_bounded b)) a v (between_bounded l a u low.0 high.0 above.0 below.0)
-    (between lower v upper low.1 high.1 above.1 below.1)
-
 pub bounded_between : (lower v upper : Vector) → IsBoundedRow lower → IsBoundedRow upper → AllZip ◌≤ℤ◌ lower v → AllZip ◌≤ℤ◌ v upper → IsBoundedRow v
 bounded_between lower v upper low high above below =
-    between lower v upper (recursion_from_All (λ a. IsTrue (is_bounded a)) lower low) (recursion_from_All (λ a. IsTrue (is_bounded a)) upper high) above below
+    vector_bounded lower v upper (recursion_from_All (λ a. IsTrue (is_bounded a)) lower low) (recursion_from_All (λ a. IsTrue (is_bounded a)) upper high) above below
 
 -- ---- a vector within the bounds of a brick
 

@@ -4,7 +4,7 @@ ghost use Rattle.std.specs.Prelude.{◌≡◌, ◌+◌, ◌++◌, ◌<◌, ◌�
 ghost use Rattle.lattice_theory.specs.BasisLimits.{IsNarrow};
 ghost use Rattle.lattice_theory.specs.SignedSums.{vectors};
 ghost use Rattle.fold_theory.specs.Programs.{Bricks, IsWithin};
-ghost use Rattle.fold_program.specs.Faults.{IsBoundedRow};
+ghost use Rattle.lattice_theory.specs.Vectors.{IsBoundedRow};
 ghost use Rattle.fold_program.specs.Places.{OfBrick};
 ghost use Rattle.fold_program.specs.Points.{HasPointShape};
 ghost use Rattle.run_theory.specs.Outcomes.{ArePotentials, IsFoldPart, point_matrix};

@@ -7,10 +7,9 @@ use Rattle.std.proofs.lemmas.List.Elements.{AllZip-push, AllZip-get_or, All-weak
 use Rattle.std.proofs.lemmas.Nat.{one_shl}
 use Rattle.std.proofs.lemmas.Int.{ints}
 use Rattle.lattice_theory.specs.Lists.{zip_with}
-use Rattle.lattice_theory.specs.Vectors.{Vector, add, scale, is_bounded}
+use Rattle.lattice_theory.specs.Vectors.{Vector, add, scale, is_bounded, IsBoundedRow}
 use Rattle.lattice_theory.specs.BasisLimits.{IsNarrow}
 use Rattle.run_theory.specs.BrickRuns.{stepped}
-use Rattle.fold_program.specs.Faults.{IsBoundedRow}
 use Rattle.brick_phase.specs.Bounds.{AreBetween}
 
 -- ---- between two numbers

@@ -3,7 +3,7 @@
 ghost use Rattle.std.specs.Prelude.{◌≡◌, ◌≤◌, length, All, IfOk};
 ghost use Rattle.lattice_theory.specs.BasisLimits.{IsNarrow};
 ghost use Rattle.fold_program.specs.Places.{OfBrick};
-ghost use Rattle.fold_program.specs.Faults.{IsBoundedRow};
+ghost use Rattle.lattice_theory.specs.Vectors.{IsBoundedRow};
 ghost use Rattle.cert_checker.specs.Steps.{is_better, is_best};
 
 use fold_program::Program;

@@ -11,7 +11,7 @@ use Rattle.std.proofs.lemmas.Bool.{leb-true, le-leb, cases_Bool}
 use Rattle.std.proofs.lemmas.Int.{ints}
 use Rattle.std.proofs.lemmas.List.Elements.{recursion_from_All}
 use Rattle.std.proofs.lemmas.Slice.Eq.{bytes_eq-Decides}
-use Rattle.lattice_theory.specs.Vectors.{Vector}
+use Rattle.lattice_theory.specs.Vectors.{Vector, IsBoundedRow}
 use Rattle.lattice_theory.specs.BasisLimits.{IsNarrow}
 use Rattle.lattice_theory.specs.Matrices.{Matrix}
 use Rattle.run_theory.specs.declared.Claim.{Claim}
@@ -34,7 +34,7 @@ use Rattle.certificate.specs.CertificateText.{next_part, next_bound, next_sum, n
 use Rattle.certificate.specs.CertificateText.{next_potentials, next_fold}
 use Rattle.certificate.specs.CertificateText.{next_head, next_claim, claim_after, fold_after, next_certificate}
 use Rattle.certificate.specs.CertificateText.{cert_answer, parsed_certificate}
-use Rattle.certificate.specs.Readable.{IsBoundedRow, IsSumRow, IsCell, IsWithin, IsWithinTable, IsReadablePart}
+use Rattle.certificate.specs.Readable.{IsSumRow, IsCell, IsWithin, IsWithinTable, IsReadablePart}
 use Rattle.certificate.specs.Readable.{IsNumbered}
 use Rattle.certificate.specs.Readable.{FitsClaim, IsReadable}
 use Rattle.certificate.proofs.TableLaws.{table_rows-all}

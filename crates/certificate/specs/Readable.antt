@@ -1,17 +1,13 @@
 -- The limits of what a certificate holds, which its type keeps: within them it can be printed and read back.
 use Rattle.std.specs.Prelude.{◌≡◌, ℕ, ◌*◌, ◌^◌, ◌≤◌, ℤ, pos, ◌≤ℤ◌, unsigned_abs, List, [], ◌∷◌, length, Option, Some}
 use Rattle.std.specs.Prelude.{None}
-use Rattle.std.specs.Prelude.{All, IsTrue}
-use Rattle.lattice_theory.specs.Vectors.{Vector, is_bounded}
+use Rattle.std.specs.Prelude.{All}
+use Rattle.lattice_theory.specs.Vectors.{Vector, IsBoundedRow}
 use Rattle.lattice_theory.specs.Matrices.{Matrix}
 use Rattle.lattice_theory.specs.BasisLimits.{IsNarrow}
 use Rattle.run_theory.specs.declared.Claim.{Claim}
 use Rattle.run_theory.specs.declared.Claim.TheVariants as claim
 use Rattle.run_theory.specs.Certificates.{Table, FoldPart, Certificate}
-
--- each entry is at most 2 ^ 62 in absolute value
-abbrev pub IsBoundedRow : Vector → Type 0
-IsBoundedRow v = All (λ a. IsTrue (is_bounded a)) v
 
 -- a level, which is a count of at most 2 ^ 62, and then entries of at most 2 ^ 47 in absolute value
 abbrev pub IsSumRow : Vector → Type 0

@@ -5,7 +5,8 @@ mod printing;
 ghost use Rattle.std.specs.Prelude.{◌≡◌, ◌≤◌, Some, None, Ok, All, length, option_copied};
 ghost use Rattle.lattice_theory.specs.BasisLimits.{IsNarrow};
 ghost use Rattle.certificate.specs.CertificateText.{certificate_text, parsed_certificate};
-ghost use Rattle.certificate.specs.Readable.{IsBoundedRow, IsOnAllBricks, FitsClaim};
+ghost use Rattle.lattice_theory.specs.Vectors.{IsBoundedRow};
+ghost use Rattle.certificate.specs.Readable.{IsOnAllBricks, FitsClaim};
 
 use crate::fold_part::FoldPart;
 use mat_files::Matrix;

@@ -3,7 +3,7 @@ use Rattle.std.proofs.Common.{◌≡◌, ℕ, ◌+◌, ◌-◌, ◌*◌, ◌^◌
 use Rattle.std.proofs.Common.{None, Result, Ok, Err, All, IsTrue, refl, eq-eqb, arith}
 use Rattle.std.proofs.lemmas.Bool.{le-leb}
 use Rattle.std.proofs.lemmas.List.Elements.{All-weaker}
-use Rattle.lattice_theory.specs.Vectors.{Vector, is_bounded}
+use Rattle.lattice_theory.specs.Vectors.{Vector, is_bounded, IsBoundedRow}
 use Rattle.lattice_theory.specs.Matrices.{Matrix}
 use Rattle.lattice_theory.specs.BasisLimits.{IsNarrow}
 use Rattle.fold_theory.specs.declared.Cost.{Cost}
@@ -20,12 +20,12 @@ use Rattle.fold_program.specs.declared.FileKind.TheVariants as file
 use Rattle.fold_program.specs.declared.ProgramFault.{ProgramFault}
 use Rattle.fold_program.specs.declared.ProgramFault.TheVariants as program
 use Rattle.fold_program.specs.Parts.{PartsValue, program_of, related}
-use Rattle.fold_program.specs.Refusals.{Refusal, Crossed, CostAt, CostSum, in_shape, first_misshaped, program_refusal}
-use Rattle.fold_program.specs.Faults.{parts_value, IsBoundedRow, AreWithinLimits, IsProgramFault}
+use Rattle.fold_program.specs.Refusals.{in_shape, first_misshaped, program_refusal}
+use Rattle.fold_program.specs.Faults.{parts_value, AreWithinLimits, IsProgramFault}
 use Rattle.fold_files.specs.declared.fault.ReadFault.{ReadFault}
 use Rattle.fold_files.specs.declared.fault.ReadFault.TheVariants as read
 use Rattle.fold_files.specs.Reading.{shaped, exactly, matrix_of, relations_of, costs_of, as_program, program_in}
-use Rattle.fold_files.specs.Faults.{refusal_fault, whole_fault}
+use Rattle.fold_files.specs.Faults.{whole_fault}
 use Rattle.fold_files.specs.Causes.{IsReadCause, IsOfFile}
 use Rattle.fold_files.proofs.FileLaws.{Differ, matrix_of_others, relations_of_others, costs_of_others}
 use Rattle.fold_files.proofs.CauseLaws.{cause_first, cause_rest}
@@ -317,13 +317,13 @@ none_misshaped p are =
       eq-eqb (length p.costs) (n * t) are.many,
     ) refl
 
-refused_whole : (relations : List Relation) (p : PartsValue) (r : Refusal) → program_refusal (program_of p) ≡ Some r →
-    as_program relations p ≡ Err (read.Program (refusal_fault r))
+refused_whole : (relations : List Relation) (p : PartsValue) (r : ProgramFault) → program_refusal (program_of p) ≡ Some r →
+    as_program relations p ≡ Err (read.Program r)
 refused_whole relations p r is = rw (is, as_program) refl
 
-stops_whole : (files : Option (List File)) (relations : List Relation) (p : PartsValue) (r : Refusal) →
+stops_whole : (files : Option (List File)) (relations : List Relation) (p : PartsValue) (r : ProgramFault) →
     program_refusal (program_of p) ≡ Some r →
-    ForTold files (λ fs. as_program relations p ≡ Err (read.Program (refusal_fault r)))
+    ForTold files (λ fs. as_program relations p ≡ Err (read.Program r))
 stops_whole files relations p r refused = ForTold-all files _ (λ fs. refused_whole relations p r refused)
 
 -- parts of which nothing is refused make the program
@@ -350,11 +350,11 @@ module _ (before now : Folder) (prefix : List ℕ) (relations : List Relation) (
       IsReadCause (λ fs. as_program relations (parts_value parts)) before now prefix (whole_fault fault)
   program_refused (program.Shape kind) cause = absurd (cc)
   program_refused (program.CrossedBounds i j) cause =
-      (tt, stops_whole before.files relations (parts_value parts) (Crossed i j) cause.1)
+      (tt, stops_whole before.files relations (parts_value parts) (program.CrossedBounds i j) cause.1)
   program_refused (program.Cost i j f) cause =
-      (tt, stops_whole before.files relations (parts_value parts) (CostAt i j f) cause.1)
+      (tt, stops_whole before.files relations (parts_value parts) (program.Cost i j f) cause.1)
   program_refused program.CostSumTooLarge cause =
-      (tt, stops_whole before.files relations (parts_value parts) CostSum cause.1)
+      (tt, stops_whole before.files relations (parts_value parts) program.CostSumTooLarge cause.1)
   program_refused program.Memory cause = tt
 
 -- and of no file

@@ -6,7 +6,6 @@ use Rattle.mat_files.specs.declared.MatFault.TheVariants as mat
 use Rattle.fold_program.specs.declared.FileKind.{FileKind}
 use Rattle.fold_program.specs.declared.ProgramFault.{ProgramFault}
 use Rattle.fold_program.specs.declared.ProgramFault.TheVariants as program
-use Rattle.fold_program.specs.Refusals.{Refusal, Crossed, CostAt, CostSum}
 use Rattle.fold_files.specs.declared.fault.RelationFault.{RelationFault}
 use Rattle.fold_files.specs.declared.fault.RelationFault.TheVariants as relation
 use Rattle.fold_files.specs.declared.fault.CostFileFault.{CostFileFault}
@@ -35,12 +34,6 @@ costs_fault cost.Memory = read.Memory
 abbrev pub relations_fault : RelationFault → ReadFault
 relations_fault (relation.Syntax at) = read.Relations at
 relations_fault relation.Memory = read.Memory
-
--- of a program that is refused as a whole
-abbrev pub refusal_fault : Refusal → ProgramFault
-refusal_fault (Crossed brick col) = program.CrossedBounds brick col
-refusal_fault (CostAt brick col f) = program.Cost brick col f
-refusal_fault CostSum = program.CostSumTooLarge
 
 -- of the program as a whole
 abbrev pub whole_fault : ProgramFault → ReadFault

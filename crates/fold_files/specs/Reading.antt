@@ -22,7 +22,7 @@ use Rattle.fold_files.specs.declared.fault.ReadFault.{ReadFault}
 use Rattle.fold_files.specs.declared.fault.ReadFault.TheVariants as read
 use Rattle.fold_files.specs.CostText.{parsed_costs}
 use Rattle.fold_files.specs.RelationText.{parsed_relations}
-use Rattle.fold_files.specs.Faults.{costs_fault, relations_fault, refusal_fault}
+use Rattle.fold_files.specs.Faults.{costs_fault, relations_fault}
 
 -- the bytes of a file of at most so many
 abbrev pub bytes_of : List File → List ℕ → FileKind → ℕ → Result (List ℕ) ReadFault
@@ -74,7 +74,7 @@ abbrev pub as_program : List Relation → PartsValue → Result Program ReadFaul
 as_program relations parts =
     elim (program_refusal (program_of parts)) [
       | None ↦ Ok (related relations (program_of parts))
-      | Some r ↦ Err (read.Program (refusal_fault r))
+      | Some r ↦ Err (read.Program r)
     ]
 
 -- the program that the six files make, and a seventh where relations are asked for, or the first fault; each file has

@@ -16,7 +16,7 @@ use Rattle.fold_program.specs.declared.fault.ProgramFault.{ProgramFault}
 use Rattle.fold_program.specs.declared.fault.ProgramFault.TheVariants as fault
 use Rattle.fold_program.specs.Parts.{PartsValue, program_of}
 use Rattle.fold_program.specs.Faults.{parts_value, IsProgramFault}
-use Rattle.fold_program.specs.Refusals.{Refusal, in_shape, first_misshaped, CostSum, crossed_in, cost_faults_in, of_each, magnitudes, brick_magnitude, total_magnitude, program_refusal, head_of}
+use Rattle.fold_program.specs.Refusals.{in_shape, first_misshaped, crossed_in, cost_faults_in, of_each, magnitudes, brick_magnitude, total_magnitude, program_refusal, head_of}
 use Rattle.fold_gen.specs.declared.customers.Price.{Price}
 use Rattle.fold_gen.specs.declared.customers.Customer.{Customer}
 use Rattle.fold_gen.specs.Draws.{next, after, draw, price, demand, customer, customers}
@@ -135,7 +135,7 @@ well_shaped p n some few link brick lower_rows lower_cols upper_rows upper_cols 
 
 -- ---- the faults
 
-none_some : (o : Option Refusal) (r : Refusal) → o ≡ None → o ≡ Some r → ⊥
+none_some : (o : Option ProgramFault) (r : ProgramFault) → o ≡ None → o ≡ Some r → ⊥
 none_some o r none some = differ (sym none ∙ some)
   where
     differ : None ≡ Some r → ⊥

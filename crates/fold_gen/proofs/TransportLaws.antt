@@ -3,11 +3,10 @@ use Rattle.std.proofs.Common.{◌≡◌, ℕ, suc, ◌+◌, ◌*◌, ◌<◌, �
 use Rattle.std.proofs.lemmas.Grind.{flat_map-append}
 use Rattle.std.proofs.lemmas.List.{append-nil, take_more, take_all, map-append, length-map}
 use Rattle.std.proofs.lemmas.List.Elements.{All-nil, All-cons}
-use Rattle.lattice_theory.specs.Vectors.{Vector, is_bounded}
+use Rattle.lattice_theory.specs.Vectors.{Vector, is_bounded, IsBoundedRow}
 use Rattle.lattice_theory.specs.Matrices.{rows_of}
 use Rattle.fold_theory.specs.Programs.{Brick}
 use Rattle.fold_program.specs.Parts.{bricks_from, program_of}
-use Rattle.fold_program.specs.Faults.{IsBoundedRow}
 use Rattle.fold_gen.specs.declared.customers.Customer.{Customer}
 use Rattle.fold_gen.specs.Transports.{brick_of, sent, links, shares, transport_of}
 

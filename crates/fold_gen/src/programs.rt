@@ -1,12 +1,12 @@
 //! The transport programs.
 
 ghost use Rattle.std.specs.Prelude.{◌≡◌, ◌<◌, ◌≤◌, ◌^◌, None, pos, length, map, flat_map, All, IfOk, IsTrue, [], ◌∷◌, ◌++◌};
-ghost use Rattle.lattice_theory.specs.Vectors.{is_bounded};
+ghost use Rattle.lattice_theory.specs.Vectors.{is_bounded, IsBoundedRow};
 ghost use Rattle.lattice_theory.specs.BasisLimits.{IsNarrow};
 ghost use Rattle.fold_theory.specs.Programs.{Bricks, IsFeasible};
 ghost use Rattle.convex_costs.specs.Bounds.{AreBounded};
 ghost use Rattle.fold_program.specs.Parts.{program_of};
-ghost use Rattle.fold_program.specs.Faults.{parts_value, AreWithinLimits, IsBoundedRow};
+ghost use Rattle.fold_program.specs.Faults.{parts_value, AreWithinLimits};
 ghost use Rattle.fold_program.specs.Refusals.{first_misshaped};
 ghost use Rattle.fold_gen.specs.Transports as transports;
 ghost use Rattle.fold_gen.specs.Transports.{brick_of, cost_of, transport_of};

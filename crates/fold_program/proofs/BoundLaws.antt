@@ -9,7 +9,8 @@ use Rattle.fold_theory.specs.declared.Cost.{Cost}
 use Rattle.fold_theory.specs.Costs.{BoundedCost}
 use Rattle.convex_costs.specs.declared.CostFault.{CostFault}
 use Rattle.convex_costs.specs.Faults.{cost_fault}
-use Rattle.fold_program.specs.Refusals.{Refusal, refusal_of, head_of}
+use Rattle.fold_program.specs.declared.fault.ProgramFault.{ProgramFault}
+use Rattle.fold_program.specs.Refusals.{refusal_of, head_of}
 use Rattle.fold_program.specs.Bounds.{IsGood, scan, fault_at}
 
 -- what was bound so far, and what is left
@@ -38,7 +39,7 @@ fault_step t k rest cost lower upper low high =
     rw (next, drop-cons lower k (pos 0) low, drop-cons upper k (pos 0) high) refl
 
 -- the first cost that is refused is this one
-pub refused_here : (t : ℕ) (costs rest : List Cost) (cost : Cost) (fault : CostFault) (lower upper : Vector) (bound : List BoundedCost) (all : List Refusal) →
+pub refused_here : (t : ℕ) (costs rest : List Cost) (cost : Cost) (fault : CostFault) (lower upper : Vector) (bound : List BoundedCost) (all : List ProgramFault) →
     length bound < length lower → length bound < length upper →
     scan (fault_at t) (length bound) (zip (cost ∷ rest) (zip (drop (length bound) lower) (drop (length bound) upper))) ≡ all →
     cost_fault cost (get_or lower (length bound) (pos 0)) (get_or upper (length bound) (pos 0)) ≡ Some fault →

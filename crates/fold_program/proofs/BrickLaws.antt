@@ -2,11 +2,10 @@
 use Rattle.std.proofs.Common.{◌≡◌, ℕ, zero, suc, ◌+◌, ◌*◌, ◌<◌, List, [], ◌∷◌, length, take, drop, refl, ap, arith, ◌∙◌, Some, slice_get, All}
 use Rattle.std.proofs.lemmas.List.{drop-drop}
 use Rattle.std.proofs.lemmas.List.Elements.{All-nil, All-cons, All-head, All-tail}
-use Rattle.lattice_theory.specs.Vectors.{Vector}
+use Rattle.lattice_theory.specs.Vectors.{Vector, IsBoundedRow}
 use Rattle.fold_theory.specs.declared.Cost.{Cost}
 use Rattle.fold_theory.specs.Programs.{Brick}
 use Rattle.fold_program.specs.Parts.{bricks_from}
-use Rattle.fold_program.specs.Faults.{IsBoundedRow}
 use Rattle.fold_program.specs.Places.{HasBoundedSides}
 
 -- there are as many as rows of lower bounds, if the upper bounds are as many

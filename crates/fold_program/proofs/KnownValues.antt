@@ -10,7 +10,8 @@ use Rattle.convex_costs.specs.declared.CostFault.TheVariants.{NotConvex}
 use Rattle.fold_program.specs.declared.fault.FileKind.TheVariants as file
 use Rattle.fold_program.specs.Files.{suffix_of}
 use Rattle.fold_program.specs.Parts.{PartsValue, program_of}
-use Rattle.fold_program.specs.Refusals.{Crossed, CostAt, CostSum, first_misshaped, program_refusal}
+use Rattle.fold_program.specs.declared.fault.ProgramFault.TheVariants as fault
+use Rattle.fold_program.specs.Refusals.{first_misshaped, program_refusal}
 
 -- the parts with these lower bounds and costs, and these upper bounds of all bricks
 abbrev parts_with : List Vector → List Vector → List Cost → PartsValue
@@ -54,18 +55,18 @@ row_short : first_misshaped (parts_with zeros (two (pos 4) (pos 4) ∷ []) the_c
 row_short = refl
 
 -- 3 above 2 in the first column of the second brick; crossed bounds come before costs
-crossed : program_refusal (program_of (parts_with (two (pos 0) (pos 0) ∷ two (pos 3) (pos 0) ∷ []) (two (pos 4) (pos 4) ∷ two (pos 2) (pos 4) ∷ []) (falling ∷ the_costs))) ≡ Some (Crossed 2 1)
+crossed : program_refusal (program_of (parts_with (two (pos 0) (pos 0) ∷ two (pos 3) (pos 0) ∷ []) (two (pos 4) (pos 4) ∷ two (pos 2) (pos 4) ∷ []) (falling ∷ the_costs))) ≡ Some (fault.CrossedBounds 2 1)
 crossed = refl
 
 -- of two bad costs the first counts
-bad_cost : program_refusal (program_of (parts_with zeros fours (square ∷ falling ∷ falling ∷ free ∷ []))) ≡ Some (CostAt 1 2 (NotConvex 0))
+bad_cost : program_refusal (program_of (parts_with zeros fours (square ∷ falling ∷ falling ∷ free ∷ []))) ≡ Some (fault.Cost 1 2 (NotConvex 0))
 bad_cost = refl
 
 -- the largest magnitude once, and twice
 one_largest : program_refusal (program_of (parts_with zeros (two (pos (2 ^ 30)) (pos 4) ∷ two (pos 4) (pos 4) ∷ []) (largest ∷ free ∷ free ∷ free ∷ []))) ≡ None
 one_largest = refl
 
-two_largest : program_refusal (program_of (parts_with zeros (two (pos (2 ^ 30)) (pos 4) ∷ two (pos 4) (pos (2 ^ 30)) ∷ []) (largest ∷ free ∷ free ∷ largest ∷ []))) ≡ Some CostSum
+two_largest : program_refusal (program_of (parts_with zeros (two (pos (2 ^ 30)) (pos 4) ∷ two (pos 4) (pos (2 ^ 30)) ∷ []) (largest ∷ free ∷ free ∷ largest ∷ []))) ≡ Some fault.CostSumTooLarge
 two_largest = refl
 
 -- the last letters of each name

@@ -5,18 +5,18 @@ use Rattle.std.proofs.lemmas.Bool.Decides.{nat_tests}
 use Rattle.std.proofs.lemmas.List.{length-drop, length-replicate, append-nil}
 use Rattle.std.proofs.lemmas.List.Elements.{recursion_from_All, All-from_recursion, All-append, All-head, All-tail, All-nil}
 use Rattle.std.proofs.Math.Nat.{mul-le-mul_right}
-use Rattle.lattice_theory.specs.Vectors.{Vector, is_bounded}
+use Rattle.lattice_theory.specs.Vectors.{Vector, is_bounded, IsBoundedRow}
 use Rattle.fold_theory.specs.declared.Cost.{Cost}
 use Rattle.fold_theory.specs.declared.Relation.{Relation}
 use Rattle.fold_theory.specs.declared.Relation.TheVariants.{Equal}
 use Rattle.fold_theory.specs.Costs.{BoundedCost}
 use Rattle.fold_theory.specs.Programs.{Program, IsBrick, IsProgram}
 use Rattle.fold_program.specs.Parts.{PartsValue, bricks_from, program_of, related, AreEven}
-use Rattle.fold_program.specs.Refusals.{Refusal, first_misshaped, CostAt, CostSum, head_of, of_each, crossed_in, cost_faults_in, program_refusal, total_magnitude, brick_magnitude}
+use Rattle.fold_program.specs.Refusals.{first_misshaped, head_of, of_each, crossed_in, cost_faults_in, program_refusal, total_magnitude, brick_magnitude}
 use Rattle.fold_program.specs.declared.parts.Parts.{Parts}
 use Rattle.fold_program.specs.declared.fault.ProgramFault.{ProgramFault}
 use Rattle.fold_program.specs.declared.fault.ProgramFault.TheVariants as fault
-use Rattle.fold_program.specs.Faults.{IsBoundedRow, AreWithinLimits, IsProgramFault, parts_value}
+use Rattle.fold_program.specs.Faults.{AreWithinLimits, IsProgramFault, parts_value}
 use Rattle.fold_program.specs.Kept.{IsKept}
 use Rattle.fold_program.specs.Bounds.{IsGood, AreBoundCosts, IsCostRefusal, cost_magnitude, scan, crossed_at, fault_at}
 use Rattle.fold_program.proofs.ScanLaws.{flat, crossed_rows, fault_rows}
@@ -29,7 +29,7 @@ bounded_flat (row ∷ rows) h =
     All-append (λ a. IsTrue (is_bounded a)) row (flat rows) (All-head IsBoundedRow row rows h) (bounded_flat rows (All-tail IsBoundedRow row rows h))
 
 -- the first refusal of a list whose first part is empty, or is not
-first_part : (xs ys : List Refusal) (r : Refusal) → head_of xs ≡ Some r → head_of (xs ++ ys) ≡ Some r
+first_part : (xs ys : List ProgramFault) (r : ProgramFault) → head_of xs ≡ Some r → head_of (xs ++ ys) ≡ Some r
 first_part [] ys r e = absurd (cc)
 first_part (x ∷ xs) ys r e = e
 
@@ -68,28 +68,28 @@ module _ (p : PartsValue) (fits : None ≡ first_misshaped p) (even : AreEven p)
       rw start at (fault_rows p.link.cols (length p.brick.rows) 0 p.lower.rows p.upper.rows (drop (length p.link.rows) (flat p.right.rows)) p.costs lower_even upper_even (sym shaped.upper_rows) shaped.costs)
 
   -- crossed bounds come first
-  pub refused_crossed : (r : Refusal) → head_of (scan (crossed_at p.link.cols) 0 (zip (flat p.lower.rows) (flat p.upper.rows))) ≡ Some r → program_refusal (program_of p) ≡ Some r
+  pub refused_crossed : (r : ProgramFault) → head_of (scan (crossed_at p.link.cols) 0 (zip (flat p.lower.rows) (flat p.upper.rows))) ≡ Some r → program_refusal (program_of p) ≡ Some r
   refused_crossed r e =
       let crossed = of_each (λ i b. crossed_in i 1 b.lower b.upper) 1 (program_of p).bricks in
       let faults = of_each (λ i b. cost_faults_in i 1 b.costs b.lower b.upper) 1 (program_of p).bricks in
-      let sum = cond (nat_lt (2 ^ 120) (total_magnitude (program_of p))) (CostSum ∷ []) [] in
+      let sum = cond (nat_lt (2 ^ 120) (total_magnitude (program_of p))) (fault.CostSumTooLarge ∷ []) [] in
       first_part (crossed ++ faults) sum r (first_part crossed faults r (ap head_of crossed_are ∙ e))
 
   -- then the costs
-  pub refused_cost : (r : Refusal) → scan (crossed_at p.link.cols) 0 (zip (flat p.lower.rows) (flat p.upper.rows)) ≡ [] →
+  pub refused_cost : (r : ProgramFault) → scan (crossed_at p.link.cols) 0 (zip (flat p.lower.rows) (flat p.upper.rows)) ≡ [] →
       head_of (scan (fault_at p.link.cols) 0 (zip p.costs (zip (flat p.lower.rows) (flat p.upper.rows)))) ≡ Some r → program_refusal (program_of p) ≡ Some r
   refused_cost r none e =
       let faults = of_each (λ i b. cost_faults_in i 1 b.costs b.lower b.upper) 1 (program_of p).bricks in
-      let sum = cond (nat_lt (2 ^ 120) (total_magnitude (program_of p))) (CostSum ∷ []) [] in
+      let sum = cond (nat_lt (2 ^ 120) (total_magnitude (program_of p))) (fault.CostSumTooLarge ∷ []) [] in
       ap (λ xs. head_of (xs ++ faults ++ sum)) (crossed_are ∙ none) ∙ first_part faults sum r (ap head_of faults_are ∙ e)
 
   -- then their sum
   last_refusal : (b : Bool) → nat_lt (2 ^ 120) (total_magnitude (program_of p)) ≡ b → scan (crossed_at p.link.cols) 0 (zip (flat p.lower.rows) (flat p.upper.rows)) ≡ [] →
-      scan (fault_at p.link.cols) 0 (zip p.costs (zip (flat p.lower.rows) (flat p.upper.rows))) ≡ [] → program_refusal (program_of p) ≡ head_of (cond b (CostSum ∷ []) [])
+      scan (fault_at p.link.cols) 0 (zip p.costs (zip (flat p.lower.rows) (flat p.upper.rows))) ≡ [] → program_refusal (program_of p) ≡ head_of (cond b (fault.CostSumTooLarge ∷ []) [])
   last_refusal b test none faultless =
       let faults = of_each (λ i b. cost_faults_in i 1 b.costs b.lower b.upper) 1 (program_of p).bricks in
-      let sum = cond (nat_lt (2 ^ 120) (total_magnitude (program_of p))) (CostSum ∷ []) [] in
-      ap (λ xs. head_of (xs ++ faults ++ sum)) (crossed_are ∙ none) ∙ ap (λ xs. head_of (xs ++ sum)) (faults_are ∙ faultless) ∙ ap (λ t. head_of (cond t (CostSum ∷ []) [])) test
+      let sum = cond (nat_lt (2 ^ 120) (total_magnitude (program_of p))) (fault.CostSumTooLarge ∷ []) [] in
+      ap (λ xs. head_of (xs ++ faults ++ sum)) (crossed_are ∙ none) ∙ ap (λ xs. head_of (xs ++ sum)) (faults_are ∙ faultless) ∙ ap (λ t. head_of (cond t (fault.CostSumTooLarge ∷ []) [])) test
 
   module _ (cs : List BoundedCost) (bound : AreBoundCosts p.costs (flat p.lower.rows) (flat p.upper.rows) cs) where
     pub total_is : total_magnitude (program_of p) ≡ sum_by cost_magnitude cs
@@ -98,7 +98,7 @@ module _ (p : PartsValue) (fits : None ≡ first_misshaped p) (even : AreEven p)
         ∙ bricks_weigh p.link.cols (length p.brick.rows) p.lower.rows p.upper.rows (drop (length p.link.rows) (flat p.right.rows)) cs lower_even upper_even shaped.upper_rows bound.lower_is bound.upper_is
 
     pub refused_sum : 2 ^ 120 < min (sum_by cost_magnitude cs) (2 ^ 128 - 1) → scan (crossed_at p.link.cols) 0 (zip (flat p.lower.rows) (flat p.upper.rows)) ≡ [] →
-        scan (fault_at p.link.cols) 0 (zip p.costs (zip (flat p.lower.rows) (flat p.upper.rows))) ≡ [] → program_refusal (program_of p) ≡ Some CostSum
+        scan (fault_at p.link.cols) 0 (zip p.costs (zip (flat p.lower.rows) (flat p.upper.rows))) ≡ [] → program_refusal (program_of p) ≡ Some fault.CostSumTooLarge
     refused_sum large none faultless =
         let total = total_is in
         let past : 2 ^ 120 < total_magnitude (program_of p) = omega arith in
@@ -146,7 +146,7 @@ module _ (p : PartsValue) (fits : None ≡ first_misshaped p) (even : AreEven p)
 pub is_program_fault : (p : Parts) → None ≡ first_misshaped (parts_value p) → AreEven (parts_value p) → (f : ProgramFault) →
     scan (crossed_at p.link.cols) 0 (zip (flat p.lower.rows) (flat p.upper.rows)) ≡ [] →
     IsCostRefusal (scan (fault_at p.link.cols) 0 (zip p.costs.items (zip (flat p.lower.rows) (flat p.upper.rows)))) f → IsProgramFault p f
-is_program_fault p fits even (fault.Cost i j c) none refused = (sym fits, refused_cost (parts_value p) fits even (CostAt i j c) none refused)
+is_program_fault p fits even (fault.Cost i j c) none refused = (sym fits, refused_cost (parts_value p) fits even (fault.Cost i j c) none refused)
 is_program_fault p fits even (fault.Shape k) none refused = absurd refused
 is_program_fault p fits even (fault.CrossedBounds i j) none refused = absurd refused
 is_program_fault p fits even fault.CostSumTooLarge none refused = absurd refused

@@ -5,10 +5,9 @@ use Rattle.std.proofs.lemmas.Int.{ints}
 use Rattle.std.proofs.lemmas.Bool.Decides.{nat_tests}
 use Rattle.std.proofs.lemmas.List.{length-drop, take-append-drop}
 use Rattle.std.proofs.lemmas.List.Elements.{All-nil, All-cons, All-take, All-drop, All-contains, recursion_from_All}
-use Rattle.lattice_theory.specs.Vectors.{Vector, is_bounded}
+use Rattle.lattice_theory.specs.Vectors.{Vector, is_bounded, IsBoundedRow}
 use Rattle.lattice_theory.specs.Matrices.{rows_of}
 use Rattle.fold_theory.specs.Programs.{Program, Brick, Bricks, AreWithin}
-use Rattle.fold_program.specs.Faults.{IsBoundedRow}
 use Rattle.fold_program.specs.Points.{IsPoint, IsNoPoint, HasPointShape}
 use Rattle.fold_program.specs.Places.{HasBoundedSides}
 use Rattle.fold_program.proofs.ScanLaws.{flat}
@@ -55,7 +54,7 @@ between_bounded l a u low high above below =
     large : (x : ℤ) → unsigned_abs x ≤ 2 ^ 62 → is_bounded x ≡ true
     large x h = grind (arith, nat_tests)
 
-vector_bounded : (lower v upper : Vector) → AllByRecursion (λ a. IsTrue (is_bounded a)) lower → AllByRecursion (λ a. IsTrue (is_bounded a)) upper →
+pub vector_bounded : (lower v upper : Vector) → AllByRecursion (λ a. IsTrue (is_bounded a)) lower → AllByRecursion (λ a. IsTrue (is_bounded a)) upper →
     AllZip ◌≤ℤ◌ lower v → AllZip ◌≤ℤ◌ v upper → IsBoundedRow v
 vector_bounded lower [] upper low high above below = All-nil (λ a. IsTrue (is_bounded a))
 vector_bounded [] (a ∷ v) upper low high above below = absurd above

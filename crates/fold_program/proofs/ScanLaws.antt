@@ -10,12 +10,14 @@ use Rattle.lattice_theory.specs.Vectors.{Vector}
 use Rattle.fold_theory.specs.declared.Cost.{Cost}
 use Rattle.convex_costs.specs.Faults.{cost_fault}
 use Rattle.fold_program.specs.Parts.{bricks_from}
-use Rattle.fold_program.specs.Refusals.{Refusal, Crossed, refusal_of, crossed_in, cost_faults_in, of_each}
+use Rattle.fold_program.specs.declared.fault.ProgramFault.{ProgramFault}
+use Rattle.fold_program.specs.declared.fault.ProgramFault.TheVariants as fault
+use Rattle.fold_program.specs.Refusals.{refusal_of, crossed_in, cost_faults_in, of_each}
 use Rattle.fold_program.specs.Bounds.{scan, crossed_at, fault_at}
 
 -- ---- lists
 
-pub scan-append : {A : Type 0} → (f : ℕ → A → List Refusal) (k : ℕ) (xs ys : List A) → scan f k (xs ++ ys) ≡ scan f k xs ++ scan f (k + length xs) ys
+pub scan-append : {A : Type 0} → (f : ℕ → A → List ProgramFault) (k : ℕ) (xs ys : List A) → scan f k (xs ++ ys) ≡ scan f k xs ++ scan f (k + length xs) ys
 scan-append f k [] ys = let e : k + 0 ≡ k = omega arith in rw e refl
 scan-append f k (x ∷ xs) ys =
     let e : k + suc (length xs) ≡ suc k + length xs = omega arith in
@@ -49,7 +51,7 @@ crossed_row t i j (a ∷ l) (b ∷ u) same fits =
     let col = mod-mul-add i t j (omega arith) in
     let next : suc (j + 1) ≡ suc j + 1 = omega arith in
     let place : suc (i * t + j) ≡ i * t + suc j = omega arith in
-    rw (brick, col, next, place) (ap (λ r. cond (int_lt b a) (Crossed (i + 1) (j + 1) ∷ []) [] ++ r) (crossed_row t i (suc j) l u (omega arith) (omega arith)))
+    rw (brick, col, next, place) (ap (λ r. cond (int_lt b a) (fault.CrossedBounds (i + 1) (j + 1) ∷ []) [] ++ r) (crossed_row t i (suc j) l u (omega arith) (omega arith)))
 
 pub crossed_rows : (t s i : ℕ) (lower upper : List Vector) (right : Vector) (costs : List Cost) →
     AllByRecursion (λ row. length row ≡ t) lower → AllByRecursion (λ row. length row ≡ t) upper → length lower ≡ length upper →

@@ -7,7 +7,7 @@ use Rattle.fold_theory.specs.Programs.{Brick}
 use Rattle.convex_costs.specs.Faults.{cost_fault}
 use Rattle.fold_program.specs.declared.fault.ProgramFault.{ProgramFault}
 use Rattle.fold_program.specs.declared.fault.ProgramFault.TheVariants as fault
-use Rattle.fold_program.specs.Refusals.{Refusal, Crossed, CostAt, refusal_of, head_of}
+use Rattle.fold_program.specs.Refusals.{refusal_of, head_of}
 
 abbrev pub cost_magnitude : BoundedCost → ℕ
 cost_magnitude c = magnitude c.cost c.lower c.upper
@@ -32,20 +32,20 @@ pub record AreBoundCosts (costs : List Cost) (lower upper : Vector) (cs : List B
   pub good : All IsGood cs
 
 -- what is refused of each element, by its place from k on, one after the other
-abbrev pub scan : {A : Type 0} → (ℕ → A → List Refusal) → ℕ → List A → List Refusal
+abbrev pub scan : {A : Type 0} → (ℕ → A → List ProgramFault) → ℕ → List A → List ProgramFault
 scan f k [] = []
 scan f k (a ∷ rest) = f k a ++ scan f (suc k) rest
 
 -- the bounds at place k, where each brick has t columns, are crossed
-abbrev pub crossed_at : ℕ → ℕ → ℤ × ℤ → List Refusal
-crossed_at t k bounds = cond (int_lt bounds.1 bounds.0) (Crossed (k / t + 1) (k % t + 1) ∷ []) []
+abbrev pub crossed_at : ℕ → ℕ → ℤ × ℤ → List ProgramFault
+crossed_at t k bounds = cond (int_lt bounds.1 bounds.0) (fault.CrossedBounds (k / t + 1) (k % t + 1) ∷ []) []
 
 -- the cost at place k is refused over its bounds
-abbrev pub fault_at : ℕ → ℕ → Cost × (ℤ × ℤ) → List Refusal
+abbrev pub fault_at : ℕ → ℕ → Cost × (ℤ × ℤ) → List ProgramFault
 fault_at t k c = refusal_of (k / t + 1) (k % t + 1) (cost_fault c.0 c.1.0 c.1.1)
 
 -- the fault is that of the first cost that is refused; want of memory may come at any time
-abbrev pub IsCostRefusal : List Refusal → ProgramFault → Type 0
-IsCostRefusal refusals (fault.Cost i j f) = head_of refusals ≡ Some (CostAt i j f)
+abbrev pub IsCostRefusal : List ProgramFault → ProgramFault → Type 0
+IsCostRefusal refusals (fault.Cost i j f) = head_of refusals ≡ Some (fault.Cost i j f)
 IsCostRefusal refusals fault.Memory = Unit {0}
 IsCostRefusal refusals f = ⊥

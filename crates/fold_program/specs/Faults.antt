@@ -1,20 +1,16 @@
 -- What the answers of `Program::new` say of the parts.
-use Rattle.std.specs.Prelude.{◌≡◌, Some, None, All, IsTrue}
-use Rattle.lattice_theory.specs.Vectors.{Vector, is_bounded}
+use Rattle.std.specs.Prelude.{◌≡◌, Some, None, All}
+use Rattle.lattice_theory.specs.Vectors.{IsBoundedRow}
 use Rattle.lattice_theory.specs.BasisLimits.{IsNarrow}
 use Rattle.convex_costs.specs.Bounds.{AreBounded}
 use Rattle.fold_program.specs.declared.parts.Parts.{Parts}
 use Rattle.fold_program.specs.declared.fault.ProgramFault.{ProgramFault}
 use Rattle.fold_program.specs.declared.fault.ProgramFault.TheVariants as fault
 use Rattle.fold_program.specs.Parts.{PartsValue, program_of}
-use Rattle.fold_program.specs.Refusals.{Refusal, Crossed, CostAt, CostSum, first_misshaped, program_refusal}
+use Rattle.fold_program.specs.Refusals.{first_misshaped, program_refusal}
 
 abbrev pub parts_value : Parts → PartsValue
 parts_value p = record { link = p.link; brick = p.brick; lower = p.lower; upper = p.upper; right = p.right; costs = p.costs.items }
-
--- each entry is at most 2 ^ 62 in absolute value
-abbrev pub IsBoundedRow : Vector → Type 0
-IsBoundedRow v = All (λ a. IsTrue (is_bounded a)) v
 
 -- the entries and the numbers of the costs are within their limits
 pub record AreWithinLimits (p : PartsValue) : Type 0 where
@@ -25,17 +21,12 @@ pub record AreWithinLimits (p : PartsValue) : Type 0 where
   pub right : All IsBoundedRow p.right.rows
   pub costs : All AreBounded p.costs
 
--- the parts have the right shapes, and this is the first refusal of the program that they make
-abbrev pub Refuses : Parts → Refusal → Type 0
-Refuses p r = (first_misshaped (parts_value p) ≡ None) × (program_refusal (program_of (parts_value p)) ≡ Some r)
-
--- the fault is the first one of these parts; want of memory may come at any time
+-- the first part that is misshaped, or else the first refusal of the program that the parts make; want of memory may come
+-- at any time
 abbrev pub IsProgramFault : Parts → ProgramFault → Type 0
 IsProgramFault p (fault.Shape kind) = first_misshaped (parts_value p) ≡ Some kind
-IsProgramFault p (fault.CrossedBounds i j) = Refuses p (Crossed i j)
-IsProgramFault p (fault.Cost i j f) = Refuses p (CostAt i j f)
-IsProgramFault p fault.CostSumTooLarge = Refuses p CostSum
 IsProgramFault p fault.Memory = Unit {0}
+IsProgramFault p f = (first_misshaped (parts_value p) ≡ None) × (program_refusal (program_of (parts_value p)) ≡ Some f)
 
 -- nothing is refused
 abbrev pub AreAccepted : Parts → Type 0

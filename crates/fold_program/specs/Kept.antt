@@ -6,7 +6,7 @@ use Rattle.fold_theory.specs.declared.Relation.{Relation}
 use Rattle.fold_theory.specs.Costs.{BoundedCost}
 use Rattle.fold_theory.specs.Programs.{Program, IsProgram}
 use Rattle.fold_program.specs.Parts.{PartsValue, all_entries, program_of, related}
-use Rattle.fold_program.specs.Faults.{IsBoundedRow}
+use Rattle.lattice_theory.specs.Vectors.{IsBoundedRow}
 use Rattle.fold_program.specs.Refusals.{total_magnitude}
 
 -- the matrices, the costs with their bounds, and the relations of the linking rows

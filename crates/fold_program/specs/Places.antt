@@ -3,7 +3,7 @@ use Rattle.std.specs.Prelude.{◌≡◌, ℕ, ◌-◌, ℤ, Some, slice_get}
 use Rattle.fold_theory.specs.declared.Cost.{Cost}
 use Rattle.fold_theory.specs.declared.Relation.{Relation}
 use Rattle.fold_theory.specs.Programs.{Program, Brick}
-use Rattle.fold_program.specs.Faults.{IsBoundedRow}
+use Rattle.lattice_theory.specs.Vectors.{IsBoundedRow}
 
 -- there is a brick of this number, from 1, and this holds of it
 abbrev pub OfBrick : Program → ℕ → (Brick → Type 0) → Type 0

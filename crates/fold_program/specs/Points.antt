@@ -1,6 +1,6 @@
 -- Points of a program.
-use Rattle.std.specs.Prelude.{◌≡◌, ◌*◌, ◌⊎◌, ℤ, List, length, All, Contains, IsTrue, false}
-use Rattle.lattice_theory.specs.Vectors.{is_bounded}
+use Rattle.std.specs.Prelude.{◌≡◌, ◌*◌, ◌⊎◌, ℤ, List, length, All, Contains, false}
+use Rattle.lattice_theory.specs.Vectors.{is_bounded, IsBoundedRow}
 use Rattle.lattice_theory.specs.Matrices.{rows_of}
 use Rattle.fold_theory.specs.Programs.{Program, Bricks}
 
@@ -12,7 +12,7 @@ pub record HasPointShape (p : Program) (x : Bricks) : Type 0 where
 -- the entries, brick by brick, make this point
 pub record IsPoint (p : Program) (entries : List ℤ) (x : Bricks) : Type 0 where
   pub size : length entries ≡ length p.bricks * p.link.cols
-  pub small : All (λ a. IsTrue (is_bounded a)) entries
+  pub small : IsBoundedRow entries
   pub value : x ≡ rows_of (length p.bricks) p.link.cols entries
 
 -- the number of entries is wrong, or one is past 2 ^ 62

@@ -9,6 +9,8 @@ use Rattle.convex_costs.specs.declared.CostFault.{CostFault}
 use Rattle.convex_costs.specs.Faults.{cost_fault}
 use Rattle.fold_program.specs.declared.fault.FileKind.{FileKind}
 use Rattle.fold_program.specs.declared.fault.FileKind.TheVariants as file
+use Rattle.fold_program.specs.declared.fault.ProgramFault.{ProgramFault}
+use Rattle.fold_program.specs.declared.fault.ProgramFault.TheVariants as fault
 use Rattle.fold_program.specs.Parts.{PartsValue}
 
 -- a number of rows and of columns in these ranges
@@ -29,35 +31,30 @@ first_misshaped p =
     (cond (not (in_shape 1 1 wide wide p.right)) (Some file.Right)
     (cond (nat_eq (length p.costs) (n * t)) None (Some file.Costs))))))
 
--- what is refused of a program as a whole; bricks and columns are numbered from 1
-pub data Refusal : Type 0 where
-  Crossed : ℕ → ℕ → Refusal
-  CostAt : ℕ → ℕ → CostFault → Refusal
-  CostSum : Refusal
-
-abbrev pub head_of : List Refusal → Option Refusal
+-- the first of what is refused; bricks and columns are numbered from 1
+abbrev pub head_of : List ProgramFault → Option ProgramFault
 head_of [] = None
 head_of (r ∷ rs) = Some r
 
 -- the columns of brick i, from number j on, whose lower bound is above the upper one
-abbrev pub crossed_in : ℕ → ℕ → Vector → Vector → List Refusal
+abbrev pub crossed_in : ℕ → ℕ → Vector → Vector → List ProgramFault
 crossed_in i j [] upper = []
 crossed_in i j (l ∷ lower) [] = []
-crossed_in i j (l ∷ lower) (u ∷ upper) = cond (int_lt u l) (Crossed i j ∷ []) [] ++ crossed_in i (suc j) lower upper
+crossed_in i j (l ∷ lower) (u ∷ upper) = cond (int_lt u l) (fault.CrossedBounds i j ∷ []) [] ++ crossed_in i (suc j) lower upper
 
-abbrev pub refusal_of : ℕ → ℕ → Option CostFault → List Refusal
+abbrev pub refusal_of : ℕ → ℕ → Option CostFault → List ProgramFault
 refusal_of i j None = []
-refusal_of i j (Some f) = CostAt i j f ∷ []
+refusal_of i j (Some f) = fault.Cost i j f ∷ []
 
 -- the costs of brick i, from column number j on, that are refused over their bounds
-abbrev pub cost_faults_in : ℕ → ℕ → List Cost → Vector → Vector → List Refusal
+abbrev pub cost_faults_in : ℕ → ℕ → List Cost → Vector → Vector → List ProgramFault
 cost_faults_in i j [] lower upper = []
 cost_faults_in i j (c ∷ cs) [] upper = []
 cost_faults_in i j (c ∷ cs) (l ∷ lower) [] = []
 cost_faults_in i j (c ∷ cs) (l ∷ lower) (u ∷ upper) = refusal_of i j (cost_fault c l u) ++ cost_faults_in i (suc j) cs lower upper
 
 -- f of each brick and its number, from number i on
-abbrev pub of_each : (ℕ → Brick → List Refusal) → ℕ → List Brick → List Refusal
+abbrev pub of_each : (ℕ → Brick → List ProgramFault) → ℕ → List Brick → List ProgramFault
 of_each f i [] = []
 of_each f i (b ∷ bs) = f i b ++ of_each f (suc i) bs
 
@@ -75,12 +72,12 @@ abbrev pub total_magnitude : Program → ℕ
 total_magnitude p = sum_by brick_magnitude p.bricks
 
 -- all that is refused: crossed bounds, then costs, then their sum
-abbrev pub refusals : Program → List Refusal
+abbrev pub refusals : Program → List ProgramFault
 refusals p =
     of_each (λ i b. crossed_in i 1 b.lower b.upper) 1 p.bricks
     ++ of_each (λ i b. cost_faults_in i 1 b.costs b.lower b.upper) 1 p.bricks
-    ++ cond (nat_lt (2 ^ 120) (total_magnitude p)) (CostSum ∷ []) []
+    ++ cond (nat_lt (2 ^ 120) (total_magnitude p)) (fault.CostSumTooLarge ∷ []) []
 
 -- the first refusal of the program
-abbrev pub program_refusal : Program → Option Refusal
+abbrev pub program_refusal : Program → Option ProgramFault
 program_refusal p = head_of (refusals p)

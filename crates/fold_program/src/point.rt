@@ -4,7 +4,7 @@ ghost use Rattle.std.specs.Prelude.{◌≡◌, ◌≤◌, ◌-◌, ◌*◌, Some
 ghost use Rattle.lattice_theory.specs.Matrices.{rows_of};
 ghost use Rattle.fold_theory.specs.Programs.{AreWithin};
 ghost use Rattle.fold_program.specs.Points.{HasPointShape, IsPoint, IsNoPoint};
-ghost use Rattle.fold_program.specs.Faults.{IsBoundedRow};
+ghost use Rattle.lattice_theory.specs.Vectors.{IsBoundedRow};
 
 use crate::program::Program;
 use mat_files::Matrix;

@@ -8,7 +8,7 @@ mod sums;
 ghost use Rattle.std.specs.Prelude.{◌≡◌, ◌≤◌, ◌-◌, ◌*◌, ◌^◌, Some, length, slice_get, All, IfSome, map};
 ghost use Rattle.lattice_theory.specs.BasisLimits.{IsNarrow};
 ghost use Rattle.fold_theory.specs.Programs.{IsProgram};
-ghost use Rattle.fold_program.specs.Faults.{IsBoundedRow};
+ghost use Rattle.lattice_theory.specs.Vectors.{IsBoundedRow};
 ghost use Rattle.fold_program.specs.Parts.{related};
 ghost use Rattle.fold_program.specs.Refusals.{total_magnitude};
 ghost use Rattle.fold_program.specs.Places.{OfBrick, HasBoundedSides};

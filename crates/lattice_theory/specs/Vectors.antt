@@ -1,5 +1,5 @@
 -- Vectors of whole numbers: the conformal order, the 1-norm, the lexicographic order, sums and products.
-use Rattle.std.specs.Prelude.{ℕ, suc, zero, ◌≤◌, ◌^◌, ℤ, pos, negsuc, ◌+ℤ◌, ◌-ℤ◌, ◌*ℤ◌, neg_ℤ, unsigned_abs, int_le, nat_le, Bool, true, false, ◌&&◌, not, IsTrue, List, [], ◌∷◌, map, sum_by, replicate, Option}
+use Rattle.std.specs.Prelude.{ℕ, suc, zero, ◌≤◌, ◌^◌, ℤ, pos, negsuc, ◌+ℤ◌, ◌-ℤ◌, ◌*ℤ◌, neg_ℤ, unsigned_abs, int_le, nat_le, Bool, true, false, ◌&&◌, not, IsTrue, List, [], ◌∷◌, map, sum_by, replicate, Option, All}
 use Rattle.std.specs.List.{list_all, list_any, position_from}
 use Rattle.std.specs.Ordering.{int_cmp, int_eq, is_lt}
 use Rattle.std.specs.Cmp.Lexicographic.{slice_cmp, pointwise}
@@ -83,6 +83,10 @@ pub record IsGreatestMultiple (e v : Vector) (m : ℕ) : Type 0 where
 -- at most 2 ^ 62 in absolute value
 abbrev pub is_bounded : ℤ → Bool
 is_bounded a = nat_le (unsigned_abs a) (2 ^ 62)
+
+-- each entry is at most 2 ^ 62 in absolute value
+abbrev pub IsBoundedRow : Vector → Type 0
+IsBoundedRow v = All (λ a. IsTrue (is_bounded a)) v
 
 -- the first place whose entry is not
 abbrev pub first_unbounded : Vector → Option ℕ

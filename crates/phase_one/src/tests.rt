@@ -1,10 +1,9 @@
 //! Programs of two bricks with two columns each, one linking row and one brick row, worked by hand.
 
 ghost use Rattle.std.specs.Prelude.{◌≡◌, pos, List, All, IfOk};
-ghost use Rattle.lattice_theory.specs.Vectors.{Vector};
+ghost use Rattle.lattice_theory.specs.Vectors.{Vector, IsBoundedRow};
 ghost use Rattle.fold_theory.specs.declared.Cost.TheVariants.{Quadratic};
 ghost use Rattle.lattice_theory.specs.BasisLimits.{IsNarrow};
-ghost use Rattle.fold_program.specs.Faults.{IsBoundedRow};
 ghost use Rattle.phase_one.specs.Started.{IsStarted};
 
 use super::{Start, counted, judge, start};

@@ -3,7 +3,7 @@
 ghost use Rattle.std.specs.Prelude.{◌≡◌, pos, All, IfSome, MatchBool};
 ghost use Rattle.fold_theory.specs.declared.Cost.TheVariants.{Quadratic};
 ghost use Rattle.lattice_theory.specs.BasisLimits.{IsNarrow};
-ghost use Rattle.fold_program.specs.Faults.{IsBoundedRow};
+ghost use Rattle.lattice_theory.specs.Vectors.{IsBoundedRow};
 
 use super::{BrickEnd, settle_brick};
 use crate::steps::BrickStep;

@@ -5,8 +5,10 @@ ghost use Rattle.std.specs.List.{AllZip, zip};
 ghost use Rattle.fold_theory.specs.Programs.{IsProgram};
 ghost use Rattle.convex_costs.specs.Bounds.{AreBounded};
 ghost use Rattle.fold_program.specs.Parts.{program_of, IsEven, AreEven};
-ghost use Rattle.fold_program.specs.Refusals.{Crossed, first_misshaped as misshaped, in_shape as is_in_shape, head_of};
-ghost use Rattle.fold_program.specs.Faults.{parts_value, AreWithinLimits, AreAccepted, IsProgramFault, IsBoundedRow};
+ghost use Rattle.fold_program.specs.Refusals.{first_misshaped as misshaped, in_shape as is_in_shape, head_of};
+ghost use Rattle.lattice_theory.specs.Vectors.{IsBoundedRow};
+ghost use Rattle.fold_program.specs.Faults.{parts_value, AreWithinLimits, AreAccepted, IsProgramFault};
+ghost use Rattle.fold_program.specs.declared.fault.ProgramFault.TheVariants as refused;
 ghost use Rattle.fold_program.specs.Bounds.{AreBoundCosts, IsCostRefusal, scan, crossed_at, fault_at, cost_magnitude};
 
 use crate::fault::{FileKind, ProgramFault};
@@ -128,7 +130,7 @@ fn first_crossed(cols: u32, lower: &[i64], upper: &[i64]) -> Option<usize>
     requires { length lower.now ≡ length upper.now }
     ensures inside { IfSome result (λ at. at < length lower.now) }
     ensures none { IfNone result ((AllZip ◌≤ℤ◌ lower.now upper.now) × (scan (crossed_at cols) 0 (zip lower.now upper.now) ≡ [])) }
-    ensures first { IfSome result (λ at. head_of (scan (crossed_at cols) 0 (zip lower.now upper.now)) ≡ Some (Crossed (at / cols + 1) (at % cols + 1))) }
+    ensures first { IfSome result (λ at. head_of (scan (crossed_at cols) 0 (zip lower.now upper.now)) ≡ Some (refused.CrossedBounds (at / cols + 1) (at % cols + 1))) }
 {
     for (at, low) in lower.iter().enumerate() {
         if upper[at] < *low {

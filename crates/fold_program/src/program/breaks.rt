@@ -1,13 +1,12 @@
 //! What a point breaks: the bounds first, then the rows of the bricks, then the linking rows.
 
 ghost use Rattle.std.specs.Prelude.{◌≡◌, ◌≤◌, ◌*◌, ◌^◌, length, map, nat_eq, unsigned_abs, IfSome, IfNone, All, OnSome, ◌-ℤ◌};
-ghost use Rattle.lattice_theory.specs.Vectors.{sub};
+ghost use Rattle.lattice_theory.specs.Vectors.{sub, IsBoundedRow};
 ghost use Rattle.lattice_theory.specs.Matrices.{product};
 ghost use Rattle.lattice_theory.specs.BasisLimits.{IsNarrow};
 ghost use Rattle.fold_theory.specs.Programs.{IsFeasible, brick_rests, link_rests, link_misses};
 ghost use Rattle.fold_theory.specs.Breaks.{bound_breaks, row_breaks, over_bricks, first_of, first_break};
 ghost use Rattle.fold_program.specs.Points.{HasPointShape};
-ghost use Rattle.fold_program.specs.Faults.{IsBoundedRow};
 
 use crate::point::Point;
 use crate::program::Program;

@@ -5,7 +5,8 @@ ghost use Rattle.fold_theory.specs.declared.Cost.TheVariants.{Quadratic};
 ghost use Rattle.lattice_theory.specs.BasisLimits.{IsNarrow};
 ghost use Rattle.convex_costs.specs.Bounds.{AreBounded};
 ghost use Rattle.fold_program.specs.Points.{HasPointShape};
-ghost use Rattle.fold_program.specs.Faults.{parts_value, AreWithinLimits, IsBoundedRow};
+ghost use Rattle.lattice_theory.specs.Vectors.{IsBoundedRow};
+ghost use Rattle.fold_program.specs.Faults.{parts_value, AreWithinLimits};
 
 use crate::{Broken, Cost, CostFault, FileKind, Parts, Point, Program, ProgramFault, Relation};
 use mat_files::Matrix;

@@ -1,7 +1,7 @@
 use Rattle.std.proofs.Common.{◌≡◌, ◌+◌, ◌∙◌, [], ◌∷◌, None, sym, subst, length, All}
 use Rattle.std.proofs.lemmas.List.Elements.{All-nil, All-cons}
 use Rattle.lattice_theory.specs.Matrices.{Matrix}
-use Rattle.fold_program.specs.Faults.{IsBoundedRow}
+use Rattle.lattice_theory.specs.Vectors.{IsBoundedRow}
 use Rattle.run_theory.specs.declared.Claim.TheVariants as claim
 use Rattle.run_theory.specs.Outcomes.{matrix_of_bricks, point_matrix}
 use Rattle.augment_run.proofs.RowLists.{within_width, within_bounded, one_row}

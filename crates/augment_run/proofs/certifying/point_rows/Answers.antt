@@ -1,7 +1,6 @@
 use Rattle.std.proofs.Common.{◌≡◌, ◌+◌, ◌-◌, ◌≤◌, ◌∙◌, Some, slice_get, ap, sym, subst, length, arith, flat_map, All}
-use Rattle.lattice_theory.specs.Vectors.{Vector}
+use Rattle.lattice_theory.specs.Vectors.{Vector, IsBoundedRow}
 use Rattle.lattice_theory.specs.Matrices.{Matrix}
-use Rattle.fold_program.specs.Faults.{IsBoundedRow}
 use Rattle.fold_program.proofs.PointLaws.{bounded_rows}
 use Rattle.pottier.proofs.BasisLaws.{entries_fit, rows_again}
 use Rattle.augment_run.proofs.RowLists.{PointUpTo, flat_all, point_more}

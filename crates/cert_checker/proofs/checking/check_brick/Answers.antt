@@ -1,4 +1,4 @@
-use Rattle.fold_program.specs.Faults.{IsBoundedRow}
+use Rattle.lattice_theory.specs.Vectors.{IsBoundedRow}
 use Rattle.complete_lists.proofs.ScanLaws.{at-All}
 use Rattle.cert_checker.proofs.checking.check_brick.Goals as goal
 

@@ -1,8 +1,8 @@
 use Rattle.std.proofs.Common.{◌≡◌, ◌∙◌, ◌*◌, ◌+◌, sym, ap, subst, refl, All, IsTrue, length, pos, replicate}
 use Rattle.std.proofs.lemmas.List.Elements.{All-replicate}
-use Rattle.lattice_theory.specs.Vectors.{Vector, is_bounded}
+use Rattle.lattice_theory.specs.Vectors.{Vector, is_bounded, IsBoundedRow}
 use Rattle.lattice_theory.specs.Matrices.{Matrix}
-use Rattle.fold_program.specs.Faults.{parts_value, IsBoundedRow}
+use Rattle.fold_program.specs.Faults.{parts_value}
 use Rattle.fold_program.proofs.PointLaws.{bounded_rows, length-rows_of}
 use Rattle.fold_gen.proofs.TransportLaws.{length-uppers, length-costs, program_made}
 use Rattle.fold_gen.proofs.AcceptedLaws.{well_shaped}

@@ -1,8 +1,7 @@
 use Rattle.std.proofs.Common.{rules, ◌∙◌, ◌++◌, sym, ap, subst, IsTrue, map, take, pos, [], ◌∷◌, append_assoc, FitsSigned, w64}
 use Rattle.std.proofs.lemmas.Int.{to_z-of_z}
 use Rattle.std.proofs.lemmas.List.Elements.{All-push}
-use Rattle.lattice_theory.specs.Vectors.{is_bounded}
-use Rattle.fold_program.specs.Faults.{IsBoundedRow}
+use Rattle.lattice_theory.specs.Vectors.{is_bounded, IsBoundedRow}
 use Rattle.fold_gen.specs.Transports.{sent}
 use Rattle.fold_gen.proofs.TransportLaws.{map_more, no_customer}
 use Rattle.fold_gen.proofs.programs.rights.Goals as goal

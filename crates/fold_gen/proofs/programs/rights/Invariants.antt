@@ -1,5 +1,5 @@
 use Rattle.std.proofs.Common.{◌≡◌, ◌++◌, map, pos, take}
-use Rattle.fold_program.specs.Faults.{IsBoundedRow}
+use Rattle.lattice_theory.specs.Vectors.{IsBoundedRow}
 use Rattle.fold_gen.specs.Transports.{sent}
 use Rattle.fold_gen.proofs.programs.rights.Given as goal
 

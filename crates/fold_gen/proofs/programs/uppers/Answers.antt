@@ -1,8 +1,7 @@
 use Rattle.std.proofs.Common.{rules, arith, ◌∙◌, ◌++◌, sym, ap, subst, IsTrue, flat_map, take, [], ◌∷◌, FitsSigned, w64}
 use Rattle.std.proofs.lemmas.Int.{to_z-of_z}
 use Rattle.std.proofs.lemmas.List.Elements.{All-append}
-use Rattle.lattice_theory.specs.Vectors.{is_bounded}
-use Rattle.fold_program.specs.Faults.{IsBoundedRow}
+use Rattle.lattice_theory.specs.Vectors.{is_bounded, IsBoundedRow}
 use Rattle.fold_gen.specs.Transports.{brick_of}
 use Rattle.fold_gen.proofs.TransportLaws.{flat_map_more, no_customer, three_bounded}
 use Rattle.fold_gen.proofs.programs.uppers.Goals as goal

@@ -1,5 +1,5 @@
 use Rattle.std.proofs.Common.{◌≡◌, flat_map, take}
-use Rattle.fold_program.specs.Faults.{IsBoundedRow}
+use Rattle.lattice_theory.specs.Vectors.{IsBoundedRow}
 use Rattle.fold_gen.specs.Transports.{brick_of}
 use Rattle.fold_gen.proofs.programs.uppers.Given as goal
 

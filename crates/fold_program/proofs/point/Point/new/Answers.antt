@@ -1,7 +1,6 @@
 use Rattle.std.proofs.Common.{rules, IsTrue, All, subst, sym}
-use Rattle.lattice_theory.specs.Vectors.{is_bounded}
+use Rattle.lattice_theory.specs.Vectors.{is_bounded, IsBoundedRow}
 use Rattle.lattice_theory.specs.Matrices.{Matrix}
-use Rattle.fold_program.specs.Faults.{IsBoundedRow}
 use Rattle.fold_program.specs.Points.{IsNoPoint}
 use Rattle.fold_program.proofs.PointLaws.{bounded_rows, point_shape, within_is_point}
 use Rattle.fold_program.proofs.point.Point.new.Goals as goal

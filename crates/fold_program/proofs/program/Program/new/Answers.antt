@@ -1,10 +1,10 @@
 use Rattle.std.proofs.Common.{arith, ◌≤◌, ◌<◌, ◌^◌, ◌-◌, sym, ap, ◌∙◌, length, min, sum_by, subst, List}
 use Rattle.std.proofs.lemmas.Result.{err_from_is_err_and}
-use Rattle.lattice_theory.specs.Vectors.{Vector}
+use Rattle.lattice_theory.specs.Vectors.{Vector, IsBoundedRow}
 use Rattle.fold_theory.specs.declared.Cost.{Cost}
 use Rattle.fold_theory.specs.Programs.{IsProgram}
 use Rattle.fold_program.specs.Parts.{program_of, related}
-use Rattle.fold_program.specs.Faults.{parts_value, IsBoundedRow}
+use Rattle.fold_program.specs.Faults.{parts_value}
 use Rattle.fold_program.specs.Bounds.{cost_magnitude}
 use Rattle.fold_program.proofs.PartsLaws.{bounded_flat, lowers_are, uppers_are, few_costs, refused_crossed, is_program_fault, refused_sum, small_sum, accepted, is_program, is_related, is_kept}
 use Rattle.fold_program.proofs.program.Program.new.Goals as goal
