@@ -1,9 +1,11 @@
 //! What a board is, and how each of its steps shows in the round.
 
-ghost use Rattle.std.specs.Prelude.{◌≡◌, ◌≢◌, ℕ, suc, ◌+◌, ◌*◌, ◌/◌, ◌%◌, ◌^◌, ◌<◌, ◌≤◌, ◌⊎◌, List, [], ◌∷◌, ◌++◌, length, replicate, slice_set, Option, Some, None, IsTrue};
+ghost use Rattle.std.specs.Prelude.{◌≡◌, ◌≢◌, ℕ, suc, ◌+◌, ◌*◌, ◌/◌, ◌%◌, ◌^◌, ◌<◌, ◌≤◌, ◌⊎◌, List, [], ◌∷◌, ◌++◌};
+ghost use Rattle.std.specs.Prelude.{length, replicate, slice_set, Option, Some, None, IsTrue};
 ghost use Rattle.run_theory.specs.Bests.{IsBestByGains};
 ghost use Rattle.round_core.specs.declared.events.Event.{Event};
-ghost use Rattle.round_core.specs.declared.events.Event.TheVariants.{Claim, StoreHigh, StoreLow, LoadBest, LoadHigh, LoadLow, Exchange, SplitSeat, JoinSeat};
+ghost use Rattle.round_core.specs.declared.events.Event.TheVariants.{Claim, StoreHigh, StoreLow, LoadBest, LoadHigh};
+ghost use Rattle.round_core.specs.declared.events.Event.TheVariants.{LoadLow, Exchange, SplitSeat, JoinSeat};
 ghost use Rattle.round_core.specs.declared.parts.Fate.TheVariants.{Open, HalfWritten, Written, Offered};
 ghost use Rattle.round_core.specs.declared.parts.Stand.TheVariants.{Working};
 ghost use Rattle.round_core.specs.Rounds.{Round, outranks};

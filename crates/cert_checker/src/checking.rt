@@ -19,11 +19,12 @@ use std::alloc::{AllocError, Global};
 /// Whether the certificate shows what it claims of the program: yes, with the verdict, exactly where it breaks no
 /// rule, and else no, with the first rule that it breaks.
 ///
-/// The rules of a claim on all bricks, in order: `C1`, the parts have the shapes of the program, and the point is within
-/// the bounds, meets the rows of the bricks and, where it is claimed to be optimal, the linking rows; `C2`, the list of
-/// elements is complete for the lattice of the matrix of all bricks; `C3`, that of the links is complete for the lattice
-/// of the link matrix; `C4`, the bound is at least the complexity; `C5`, the sums are closed below the bound; `C6`, the
-/// potentials hold; `C7`, where no point is claimed to be feasible, the point misses the linking rows.
+/// The rules of a claim on all bricks, in order: `C1`, the parts have the shapes of the program, and the point is
+/// within the bounds, meets the rows of the bricks and, where it is claimed to be optimal, the linking rows; `C2`,
+/// the list of elements is complete for the lattice of the matrix of all bricks; `C3`, that of the links is complete
+/// for the lattice of the link matrix; `C4`, the bound is at least the complexity; `C5`, the sums are closed below
+/// the bound; `C6`, the potentials hold; `C7`, where no point is claimed to be feasible, the point misses the linking
+/// rows.
 ///
 /// Those of the claim that one brick cannot meet its rows: `B1`, there is such a brick, the point and the list have the
 /// shapes of the program, and the point is within the brick's bounds; `C2`, as before; `B2`, no step by an element,

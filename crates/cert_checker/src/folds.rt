@@ -6,7 +6,8 @@ ghost use Rattle.fold_theory.specs.Programs.{AreWithin};
 ghost use Rattle.fold_program.specs.Points.{HasPointShape};
 ghost use Rattle.run_theory.specs.Checker.{first_failing, listed_generators};
 ghost use Rattle.cert_checker.specs.Answers.{checked};
-ghost use Rattle.cert_checker.specs.Folds.{claim_of, brick_parts_fit, fold_parts_fit, meets_links, list_rules, IsPointOf, verdict_of};
+ghost use Rattle.cert_checker.specs.Folds.{claim_of, brick_parts_fit, fold_parts_fit, meets_links, list_rules};
+ghost use Rattle.cert_checker.specs.Folds.{IsPointOf, verdict_of};
 
 use crate::answer::Check;
 use crate::points::{are_within, meet_brick_rows, point_of};

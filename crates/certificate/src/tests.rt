@@ -71,7 +71,7 @@ fn a_text_that_is_cut_ends_early(rt: HostRuntime) {
 }
 
 #[test]
-fn names_the_first_fault_of_a_word_or_a_size(rt: HostRuntime) {
+fn names_the_first_fault_of_a_word_or_a_brick(rt: HostRuntime) {
     let alloc = rt.alloc();
     assert!(rt; is_refused(alloc, b"nfold-certificate 01 claim", 18, CertKind::Word));
     assert!(rt; is_refused(alloc, b"nfold-certificate +1 claim", 18, CertKind::Word));
@@ -99,6 +99,11 @@ fn names_the_first_fault_of_a_word_or_a_size(rt: HostRuntime) {
             CertKind::TooBig
         )
     );
+}
+
+#[test]
+fn names_the_first_fault_of_the_size_of_the_point(rt: HostRuntime) {
+    let alloc = rt.alloc();
     assert!(rt;
         is_refused(
             alloc,
@@ -126,7 +131,7 @@ fn names_the_first_fault_of_a_word_or_a_size(rt: HostRuntime) {
 }
 
 #[test]
-fn names_the_first_fault_of_what_follows(rt: HostRuntime) {
+fn names_the_first_fault_of_the_entries_of_the_point(rt: HostRuntime) {
     let alloc = rt.alloc();
     assert!(rt;
         is_refused(
@@ -144,6 +149,11 @@ fn names_the_first_fault_of_what_follows(rt: HostRuntime) {
             CertKind::TooBig
         )
     );
+}
+
+#[test]
+fn names_the_first_fault_of_what_follows_the_point(rt: HostRuntime) {
+    let alloc = rt.alloc();
     assert!(rt;
         is_refused(
             alloc,

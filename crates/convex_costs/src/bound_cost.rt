@@ -1,7 +1,8 @@
 //! A convex cost with the bounds on which it is accepted.
 #![tactic(auto)]
 
-ghost use Rattle.std.specs.Prelude.{◌≡◌, ◌<◌, ◌≤◌, ◌≤ℤ◌, ◌^◌, None, Some, IsTrue, IfOk, IfErr, OnOk, IfSome, IfNone, unsigned_abs};
+ghost use Rattle.std.specs.Prelude.{◌≡◌, ◌<◌, ◌≤◌, ◌≤ℤ◌, ◌^◌, None, Some, IsTrue, IfOk, IfErr, OnOk, IfSome, IfNone};
+ghost use Rattle.std.specs.Prelude.{unsigned_abs};
 ghost use Rattle.lattice_theory.specs.Vectors.{is_bounded};
 ghost use Rattle.fold_theory.specs.Costs as costs;
 ghost use Rattle.convex_costs.specs.Faults as faults;
@@ -36,7 +37,8 @@ impl Model for BoundCost {
 
     ghost view = { λ b. record { cost = b.cost; lower = b.lower; upper = b.upper } };
 
-    ghost invariant = { λ b. IsAccepted b.cost b.lower b.upper × (b.magnitude ≡ costs.magnitude b.cost b.lower b.upper) };
+    ghost invariant = { λ b. IsAccepted b.cost b.lower b.upper × (b.magnitude ≡ costs.magnitude b.cost b.lower
+        b.upper) };
 }
 
 impl BoundCost {

@@ -3,7 +3,8 @@
 ghost use Rattle.std.specs.Prelude.{◌≡◌, ◌≤◌, ◌*◌, Ok, MatchResult, IfOk, All, length};
 ghost use Rattle.mat_files.specs.Reading.{Gives, IsTokenFault, repeated, only};
 ghost use Rattle.convex_costs.specs.Bounds.{IsBoundedPoint, AreBounded};
-ghost use Rattle.fold_files.specs.CostText.{next_breakpoint, next_quadratic, next_points, next_cost, next_costs, parsed_costs, IsCostFileFault};
+ghost use Rattle.fold_files.specs.CostText.{next_breakpoint, next_quadratic, next_points, next_cost, next_costs};
+ghost use Rattle.fold_files.specs.CostText.{parsed_costs, IsCostFileFault};
 
 use crate::fault::CostFileFault;
 use convex_costs::{Breakpoint, Breakpoints, Cost};
@@ -25,7 +26,8 @@ pub fn parse_costs(alloc: Global, bytes: &[u8], n: u32, t: u32) -> Result<Vec<Co
     requires n_to { n ≤ 10000 }
     requires t_from { 1 ≤ t }
     requires t_to { t ≤ 32 }
-    ensures parsed { MatchResult result (λ cs. parsed_costs n t bytes.now ≡ Ok cs.items) (IsCostFileFault (parsed_costs n t bytes.now)) }
+    ensures parsed { MatchResult result (λ cs. parsed_costs n t bytes.now ≡ Ok cs.items) (IsCostFileFault
+        (parsed_costs n t bytes.now)) }
     ensures bounded { IfOk result (λ cs. All AreBounded cs.items) }
     ensures many { IfOk result (λ cs. length cs.items ≡ n * t) }
 {
@@ -35,7 +37,8 @@ pub fn parse_costs(alloc: Global, bytes: &[u8], n: u32, t: u32) -> Result<Vec<Co
 /// The costs that are all that the bytes spell.
 fn all_costs(alloc: Global, bytes: &[u8], n: u32, t: u32) -> Result<Vec<Cost>, TokenFault>
     requires { n * t ≤ 320000 }
-    ensures read { MatchResult result (λ cs. only (next_costs n t) bytes.now ≡ Ok cs.items) (IsTokenFault (only (next_costs n t) bytes.now)) }
+    ensures read { MatchResult result (λ cs. only (next_costs n t) bytes.now ≡ Ok cs.items) (IsTokenFault (only
+        (next_costs n t) bytes.now)) }
     ensures bounded { IfOk result (λ cs. All AreBounded cs.items) }
     ensures many { IfOk result (λ cs. length cs.items ≡ n * t) }
 {
@@ -63,7 +66,8 @@ fn costs(alloc: Global, tokens: &mut Scanner<'_>, count: u32) -> Result<Vec<Cost
 
 /// The next cost.
 fn cost(alloc: Global, tokens: &mut Scanner<'_>) -> Result<Cost, TokenFault>
-    ensures read { MatchResult result (λ c. next_cost tokens.old ≡ Ok (c, tokens.new)) (IsTokenFault (next_cost tokens.old)) }
+    ensures read { MatchResult result (λ c. next_cost tokens.old ≡ Ok (c, tokens.new)) (IsTokenFault
+        (next_cost tokens.old)) }
     ensures bounded { IfOk result AreBounded }
 {
     let token = tokens.token()?;
@@ -87,7 +91,8 @@ fn quadratic(tokens: &mut Scanner<'_>) -> Result<Cost, TokenFault>
 
 /// The cost of the next count and so many breakpoints.
 fn points(alloc: Global, tokens: &mut Scanner<'_>) -> Result<Cost, TokenFault>
-    ensures read { MatchResult result (λ c. next_points tokens.old ≡ Ok (c, tokens.new)) (IsTokenFault (next_points tokens.old)) }
+    ensures read { MatchResult result (λ c. next_points tokens.old ≡ Ok (c, tokens.new)) (IsTokenFault
+        (next_points tokens.old)) }
     ensures bounded { IfOk result AreBounded }
 {
     let count = tokens.count(1, 1_000, FaultKind::TooMany)?;

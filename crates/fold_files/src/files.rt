@@ -7,7 +7,8 @@ ghost use Rattle.fold_shelf.specs.Outside.{ForTold, OnlyReads};
 ghost use Rattle.mat_files.specs.MatrixText.{Admits};
 ghost use Rattle.fold_program.specs.Files.{suffix_of};
 ghost use Rattle.fold_program.specs.Points.{HasPointShape};
-ghost use Rattle.fold_files.specs.Reading.{bytes_of, shaped, exactly, matrix_of, relations_of, costs_of, program_in, point_in, plain_in, certificate_in};
+ghost use Rattle.fold_files.specs.Reading.{bytes_of, shaped, exactly, matrix_of, relations_of, costs_of, program_in};
+ghost use Rattle.fold_files.specs.Reading.{point_in, plain_in, certificate_in};
 ghost use Rattle.fold_files.specs.Causes.{IsReadCause, IsOfFile};
 
 use crate::cost_file::parse_costs;
@@ -34,20 +35,23 @@ const WIDE: u64 = 1 << 62;
 /// Reads the program in the files whose names are `prefix` and a suffix: `.link.mat`, `.brick.mat`, `.lb`, `.ub`,
 /// `.rhs`, where `relations` asks for it `.rel`, and `.cost`, one after the other.
 ///
-/// The linking matrix has 0 to 16 rows and 1 to 32 columns, the matrix of all bricks 0 to 16 rows and as many columns,
-/// the lower bounds a row for each of 1 to 10,000 bricks, the upper bounds as many, and the right sides one row, those
-/// of the linking rows and then those of each brick. Without a file of relations all linking rows are equations. The answer is the program that they make, or the first fault: those
-/// of one file come before those of the next, and those of the program as a whole last. `Shelf` comes only where the
-/// shelf lacks the file or its count of faults rose, and every file before it has its form.
+/// The linking matrix has 0 to 16 rows and 1 to 32 columns, the matrix of all bricks 0 to 16 rows and as many
+/// columns, the lower bounds a row for each of 1 to 10,000 bricks, the upper bounds as many, and the right sides one
+/// row, those of the linking rows and then those of each brick. Without a file of relations all linking rows are
+/// equations. The answer is the program that they make, or the first fault: those of one file come before those of
+/// the next, and those of the program as a whole last. `Shelf` comes only where the shelf lacks the file or its count
+/// of faults rose, and every file before it has its form.
 pub fn read_program<S: Shelf>(
     alloc: Global,
     shelf: &mut S,
     prefix: &str,
     relations: bool,
 ) -> Result<Program, ReadFault>
-    ensures program { IfOk result (λ p. ForTold (S.seen shelf.old).files (λ fs. program_in fs prefix.now relations ≡ Ok p)) }
+    ensures program { IfOk result (λ p. ForTold (S.seen shelf.old).files
+        (λ fs. program_in fs prefix.now relations ≡ Ok p)) }
     ensures accepted { IfOk result IsProgram }
-    ensures refused { IfErr result (IsReadCause (λ fs. program_in fs prefix.now relations) (S.seen shelf.old) (S.seen shelf.new) prefix.now) }
+    ensures refused { IfErr result (IsReadCause (λ fs. program_in fs prefix.now relations) (S.seen shelf.old)
+        (S.seen shelf.new) prefix.now) }
     ensures reads { OnlyReads (S.seen shelf.old) (S.seen shelf.new) }
 {
     let link = read_matrix(alloc, shelf, prefix, FileKind::Link, &plain_shape())?;
@@ -98,9 +102,11 @@ pub fn read_point<S: Shelf>(
     prefix: &str,
     program: &Program,
 ) -> Result<Point, ReadFault>
-    ensures point { IfOk result (λ x. ForTold (S.seen shelf.old).files (λ fs. point_in fs prefix.now program.now ≡ Ok (record { cols = program.now.link.cols; rows = x }))) }
+    ensures point { IfOk result (λ x. ForTold (S.seen shelf.old).files
+        (λ fs. point_in fs prefix.now program.now ≡ Ok (record { cols = program.now.link.cols; rows = x }))) }
     ensures shape { IfOk result (HasPointShape program.now) }
-    ensures refused { IfErr result (IsReadCause (λ fs. point_in fs prefix.now program.now) (S.seen shelf.old) (S.seen shelf.new) prefix.now) }
+    ensures refused { IfErr result (IsReadCause (λ fs. point_in fs prefix.now program.now) (S.seen shelf.old)
+        (S.seen shelf.new) prefix.now) }
     ensures file { IfErr result (IsOfFile FileKind.Point) }
     ensures reads { OnlyReads (S.seen shelf.old) (S.seen shelf.new) }
 {
@@ -117,22 +123,25 @@ pub fn read_point<S: Shelf>(
 pub fn read_plain<S: Shelf>(alloc: Global, shelf: &mut S, prefix: &str) -> Result<Matrix, ReadFault>
     ensures matrix { IfOk result (λ m. ForTold (S.seen shelf.old).files (λ fs. plain_in fs prefix.now ≡ Ok m)) }
     ensures shape { IfOk result (Admits (shaped 0 16 1 32 (2 ^ 31 - 1))) }
-    ensures refused { IfErr result (IsReadCause (λ fs. plain_in fs prefix.now) (S.seen shelf.old) (S.seen shelf.new) prefix.now) }
+    ensures refused { IfErr result (IsReadCause (λ fs. plain_in fs prefix.now) (S.seen shelf.old)
+        (S.seen shelf.new) prefix.now) }
     ensures file { IfErr result (IsOfFile FileKind.Plain) }
     ensures reads { OnlyReads (S.seen shelf.old) (S.seen shelf.new) }
 {
     read_matrix(alloc, shelf, prefix, FileKind::Plain, &plain_shape())
 }
 
-/// Reads the bytes of the certificate in the file whose name is `prefix` and `.cert`, of which there are at most `2^27`.
-/// They may spell no certificate. The faults are those of `read_program`, of this file alone.
+/// Reads the bytes of the certificate in the file whose name is `prefix` and `.cert`, of which there are at most
+/// `2^27`. They may spell no certificate. The faults are those of `read_program`, of this file alone.
 pub fn read_certificate<S: Shelf>(
     alloc: Global,
     shelf: &mut S,
     prefix: &str,
 ) -> Result<Vec<u8>, ReadFault>
-    ensures bytes { IfOk result (λ b. ForTold (S.seen shelf.old).files (λ fs. certificate_in fs prefix.now ≡ Ok b.items)) }
-    ensures refused { IfErr result (IsReadCause (λ fs. certificate_in fs prefix.now) (S.seen shelf.old) (S.seen shelf.new) prefix.now) }
+    ensures bytes { IfOk result (λ b. ForTold (S.seen shelf.old).files
+        (λ fs. certificate_in fs prefix.now ≡ Ok b.items)) }
+    ensures refused { IfErr result (IsReadCause (λ fs. certificate_in fs prefix.now) (S.seen shelf.old)
+        (S.seen shelf.new) prefix.now) }
     ensures file { IfErr result (IsOfFile FileKind.Cert) }
     ensures reads { OnlyReads (S.seen shelf.old) (S.seen shelf.new) }
 {
@@ -174,9 +183,11 @@ fn read_matrix<S: Shelf>(
     shape: &Shape,
 ) -> Result<Matrix, ReadFault>
     requires { shape.now.largest ≤ 2 ^ 62 }
-    ensures matrix { IfOk result (λ m. ForTold (S.seen shelf.old).files (λ fs. matrix_of fs prefix.now file shape.now ≡ Ok m)) }
+    ensures matrix { IfOk result (λ m. ForTold (S.seen shelf.old).files
+        (λ fs. matrix_of fs prefix.now file shape.now ≡ Ok m)) }
     ensures shape { IfOk result (Admits shape.now) }
-    ensures refused { IfErr result (IsReadCause (λ fs. matrix_of fs prefix.now file shape.now) (S.seen shelf.old) (S.seen shelf.new) prefix.now) }
+    ensures refused { IfErr result (IsReadCause (λ fs. matrix_of fs prefix.now file shape.now) (S.seen shelf.old)
+        (S.seen shelf.new) prefix.now) }
     ensures file { IfErr result (IsOfFile file) }
     ensures reads { OnlyReads (S.seen shelf.old) (S.seen shelf.new) }
 {
@@ -195,9 +206,11 @@ fn read_relations<S: Shelf>(
     r: u32,
     asked: bool,
 ) -> Result<Vec<Relation>, ReadFault>
-    ensures relations { IfOk result (λ rs. ForTold (S.seen shelf.old).files (λ fs. relations_of fs prefix.now asked r ≡ Ok rs.items)) }
+    ensures relations { IfOk result (λ rs. ForTold (S.seen shelf.old).files
+        (λ fs. relations_of fs prefix.now asked r ≡ Ok rs.items)) }
     ensures many { IfOk result (λ rs. length rs.items ≡ r) }
-    ensures refused { IfErr result (IsReadCause (λ fs. relations_of fs prefix.now asked r) (S.seen shelf.old) (S.seen shelf.new) prefix.now) }
+    ensures refused { IfErr result (IsReadCause (λ fs. relations_of fs prefix.now asked r) (S.seen shelf.old)
+        (S.seen shelf.new) prefix.now) }
     ensures file { IfErr result (IsOfFile FileKind.Relations) }
     ensures reads { OnlyReads (S.seen shelf.old) (S.seen shelf.new) }
 {
@@ -220,10 +233,12 @@ fn read_costs<S: Shelf>(
     requires n_to { n ≤ 10000 }
     requires t_from { 1 ≤ t }
     requires t_to { t ≤ 32 }
-    ensures costs { IfOk result (λ cs. ForTold (S.seen shelf.old).files (λ fs. costs_of fs prefix.now n t ≡ Ok cs.items)) }
+    ensures costs { IfOk result (λ cs. ForTold (S.seen shelf.old).files
+        (λ fs. costs_of fs prefix.now n t ≡ Ok cs.items)) }
     ensures bounded { IfOk result (λ cs. All AreBounded cs.items) }
     ensures many { IfOk result (λ cs. length cs.items ≡ n * t) }
-    ensures refused { IfErr result (IsReadCause (λ fs. costs_of fs prefix.now n t) (S.seen shelf.old) (S.seen shelf.new) prefix.now) }
+    ensures refused { IfErr result (IsReadCause (λ fs. costs_of fs prefix.now n t) (S.seen shelf.old)
+        (S.seen shelf.new) prefix.now) }
     ensures file { IfErr result (IsOfFile FileKind.Costs) }
     ensures reads { OnlyReads (S.seen shelf.old) (S.seen shelf.new) }
 {
@@ -239,8 +254,10 @@ fn read_bytes<S: Shelf>(
     file: FileKind,
     most: u64,
 ) -> Result<Vec<u8>, ReadFault>
-    ensures bytes { IfOk result (λ b. ForTold (S.seen shelf.old).files (λ fs. bytes_of fs prefix.now file most ≡ Ok b.items)) }
-    ensures refused { IfErr result (IsReadCause (λ fs. bytes_of fs prefix.now file most) (S.seen shelf.old) (S.seen shelf.new) prefix.now) }
+    ensures bytes { IfOk result (λ b. ForTold (S.seen shelf.old).files
+        (λ fs. bytes_of fs prefix.now file most ≡ Ok b.items)) }
+    ensures refused { IfErr result (IsReadCause (λ fs. bytes_of fs prefix.now file most) (S.seen shelf.old)
+        (S.seen shelf.new) prefix.now) }
     ensures file { IfErr result (IsOfFile file) }
     ensures reads { OnlyReads (S.seen shelf.old) (S.seen shelf.new) }
 {

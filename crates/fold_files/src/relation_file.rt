@@ -15,7 +15,8 @@ use std::alloc::Global;
 /// at most that, or at least that. White space stands between tokens, and nothing follows the last relation. `Syntax`
 /// says where the first token stands that departs from this, or that the file ends early.
 pub fn parse_relations(alloc: Global, bytes: &[u8], r: u32) -> Result<Vec<Relation>, RelationFault>
-    ensures parsed { MatchResult result (λ rs. parsed_relations r bytes.now ≡ Ok rs.items) (IsRelationFault (parsed_relations r bytes.now)) }
+    ensures parsed { MatchResult result (λ rs. parsed_relations r bytes.now ≡ Ok rs.items) (IsRelationFault
+        (parsed_relations r bytes.now)) }
     ensures many { IfOk result (λ rs. length rs.items ≡ r) }
 {
     Ok(all_relations(alloc, bytes, r)?)
@@ -23,7 +24,8 @@ pub fn parse_relations(alloc: Global, bytes: &[u8], r: u32) -> Result<Vec<Relati
 
 /// The relations that are all that the bytes spell.
 fn all_relations(alloc: Global, bytes: &[u8], r: u32) -> Result<Vec<Relation>, TokenFault>
-    ensures read { MatchResult result (λ rs. only (next_relations r) bytes.now ≡ Ok rs.items) (IsTokenFault (only (next_relations r) bytes.now)) }
+    ensures read { MatchResult result (λ rs. only (next_relations r) bytes.now ≡ Ok rs.items) (IsTokenFault (only
+        (next_relations r) bytes.now)) }
     ensures many { IfOk result (λ rs. length rs.items ≡ r) }
 {
     let mut tokens = Scanner::new(bytes);

@@ -1,6 +1,7 @@
 //! The transport programs.
 
-ghost use Rattle.std.specs.Prelude.{◌≡◌, ◌<◌, ◌≤◌, ◌^◌, None, pos, length, map, flat_map, All, IfOk, IsTrue, [], ◌∷◌, ◌++◌};
+ghost use Rattle.std.specs.Prelude.{◌≡◌, ◌<◌, ◌≤◌, ◌^◌, None, pos, length, map, flat_map, All, IfOk, IsTrue, [], ◌∷◌};
+ghost use Rattle.std.specs.Prelude.{◌++◌};
 ghost use Rattle.lattice_theory.specs.Vectors.{is_bounded, IsBoundedRow};
 ghost use Rattle.lattice_theory.specs.BasisLimits.{IsNarrow};
 ghost use Rattle.fold_theory.specs.Programs.{Bricks, IsFeasible};
@@ -18,11 +19,11 @@ use std::alloc::{AllocError, Global};
 
 /// The transport program of this number with so many customers, which is feasible.
 ///
-/// The generator turns `z` into `(75·z + 74) mod 65537`, first of all the number itself, and draws `z mod m`. For each
-/// customer it draws the demand, `1 + (z mod 4)`; then for each of the three suppliers the two numbers of its price
-/// `a·v² + b·v`, `z mod 3` and `z mod 7`; and then for each unit of the demand the supplier that is planted to send it,
-/// `z mod 3`. Each customer is a brick: the shares of the suppliers add up to its demand, and none is more than that. What a
-/// supplier sends in all is what is planted. An error comes only where memory runs out.
+/// The generator turns `z` into `(75·z + 74) mod 65537`, first of all the number itself, and draws `z mod m`. For
+/// each customer it draws the demand, `1 + (z mod 4)`; then for each of the three suppliers the two numbers of its
+/// price `a·v² + b·v`, `z mod 3` and `z mod 7`; and then for each unit of the demand the supplier that is planted to
+/// send it, `z mod 3`. Each customer is a brick: the shares of the suppliers add up to its demand, and none is more
+/// than that. What a supplier sends in all is what is planted. An error comes only where memory runs out.
 pub fn transport(alloc: Global, number: u32, bricks: u32) -> Result<Program, AllocError>
     requires number { number ≤ 65535 }
     requires some { 1 ≤ bricks }
@@ -101,7 +102,8 @@ fn uppers(alloc: Global, customers: &[Customer]) -> Result<Vec<i64>, AllocError>
 /// The right sides: what each supplier is planted to send, and then the demands.
 fn rights(alloc: Global, customers: &[Customer]) -> Result<Vec<i64>, AllocError>
     requires { length customers.now ≤ 10000 }
-    ensures rights { IfOk result (λ rights. rights.items ≡ transports.sent customers.now ++ map (λ c. pos c.demand) customers.now) }
+    ensures rights { IfOk result (λ rights. rights.items ≡ transports.sent customers.now ++ map
+        (λ c. pos c.demand) customers.now) }
     ensures bounded { IfOk result (λ rights. IsBoundedRow rights.items) }
 {
     let Sent {

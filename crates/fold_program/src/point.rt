@@ -35,7 +35,9 @@ impl Point {
         ensures made { IfSome result (IsPoint program.now entries.items) }
         ensures shape { IfSome result (HasPointShape program.now) }
         ensures refused { IfNone result (IsNoPoint program.now entries.items) }
-        ensures within { length entries.items ≡ length program.now.bricks * program.now.link.cols → AreWithin program.now.bricks (rows_of (length program.now.bricks) program.now.link.cols entries.items) → IsSome result }
+        ensures within { length entries.items ≡ length program.now.bricks * program.now.link.cols →
+            AreWithin program.now.bricks (rows_of (length program.now.bricks) program.now.link.cols entries.items) →
+            IsSome result }
     {
         let (rows, cols) = (program.n(), program.t());
         if entries.len() as u64 != u64::from(rows) * u64::from(cols) {

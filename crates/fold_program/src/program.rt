@@ -18,8 +18,9 @@ use fold_theory::Relation;
 use mat_files::Matrix;
 use std::marker::Model;
 
-/// An n-fold program: `n` bricks of `t` columns with one matrix of `s` rows for each, `r` linking rows over all, each with
-/// its relation, and a lower bound, an upper bound and a convex cost for each column of each brick. Bricks, columns and rows are numbered from 1.
+/// An n-fold program: `n` bricks of `t` columns with one matrix of `s` rows for each, `r` linking rows over all, each
+/// with its relation, and a lower bound, an upper bound and a convex cost for each column of each brick. Bricks,
+/// columns and rows are numbered from 1.
 #[derive(Debug, Drop)]
 pub struct Program {
     link: Matrix,
@@ -37,14 +38,16 @@ impl Model for Program {
 
     ghost Value = { programs.Program };
 
-    ghost view = { λ p. stored_program (record { link = p.link; brick = p.brick; lower = p.lower; upper = p.upper; right = p.right; costs = p.costs.items; relations = p.relations.items }) };
+    ghost view = { λ p. stored_program (record { link = p.link; brick = p.brick; lower = p.lower; upper = p.upper;
+        right = p.right; costs = p.costs.items; relations = p.relations.items }) };
 
-    ghost invariant = { λ p. IsKept (record { link = p.link; brick = p.brick; lower = p.lower; upper = p.upper; right = p.right; costs = p.costs.items; relations = p.relations.items }) };
+    ghost invariant = { λ p. IsKept (record { link = p.link; brick = p.brick; lower = p.lower; upper = p.upper;
+        right = p.right; costs = p.costs.items; relations = p.relations.items }) };
 }
 
 impl Program {
-    /// How many bricks there are: 1 to 10,000. The parts fit each other, no bounds cross, each bound is at
-    /// most `2^62` in absolute value, each cost is convex on its bounds, and the magnitudes of all costs add up to at most
+    /// How many bricks there are: 1 to 10,000. The parts fit each other, no bounds cross, each bound is at most
+    /// `2^62` in absolute value, each cost is convex on its bounds, and the magnitudes of all costs add up to at most
     /// `2^120`.
     pub fn n(&self) -> u32
         ensures bricks { result ≡ length self.now.bricks }

@@ -24,7 +24,8 @@ impl MemShelf {
     pub fn new(alloc: Global, files: Vec<MemFile>, fail: Vec<u64>, most: usize) -> MemShelf
         requires names { IsTrue (names_differ files.items) }
         requires most { 1 ≤ most }
-        ensures { ⟦<MemShelf as Shelf>⟧.seen result ≡ record { files = Some files.items; read_faults = 0; write_faults = 0 } }
+        ensures { ⟦<MemShelf as Shelf>⟧.seen result ≡ record { files = Some files.items; read_faults = 0;
+            write_faults = 0 } }
     {
         MemShelf {
             alloc,
@@ -37,7 +38,8 @@ impl MemShelf {
 
     /// The bytes of the named file; `None` exactly where there is none.
     pub fn file(&self, name: &str) -> Option<&[u8]>
-        ensures there { IfSome result (λ bytes. IsTold (⟦<MemShelf as Shelf>⟧.seen self.now).files (λ fs. file_named fs name.now ≡ Some bytes.now)) }
+        ensures there { IfSome result (λ bytes. IsTold (⟦<MemShelf as Shelf>⟧.seen self.now).files
+            (λ fs. file_named fs name.now ≡ Some bytes.now)) }
         ensures absent { IfNone result (IsTold (⟦<MemShelf as Shelf>⟧.seen self.now).files (λ fs. Lacks fs name.now)) }
     {
         self.folder.get(name)

@@ -1,7 +1,8 @@
 //! A folder of named files.
 
 ghost use Rattle.std.specs.Prelude.{[], ◌≡◌, ◌≤◌, IfOk, IfErr, OnOk, OnErr, length, take};
-ghost use Rattle.fold_shelf.specs.Outside.{Folder, ForTold, ForBoth, ReadFailed, WriteFailed, OnlyReads, OnlyWrites, ReadFrom, FileHolds, FileGains, TakesSome, IsShelfCause, IsCreateCause};
+ghost use Rattle.fold_shelf.specs.Outside.{Folder, ForTold, ForBoth, ReadFailed, WriteFailed, OnlyReads, OnlyWrites};
+ghost use Rattle.fold_shelf.specs.Outside.{ReadFrom, FileHolds, FileGains, TakesSome, IsShelfCause, IsCreateCause};
 
 use std::alloc::AllocError;
 
@@ -43,7 +44,8 @@ pub trait Shelf {
     fn read_at(&mut self, name: &str, at: u64, buf: &mut [u8]) -> Result<usize, ShelfFault>
         ensures most { IfOk result (λ n. n ≤ length buf.new) }
         ensures bytes { IfOk result (λ n. ForTold (seen self.old).files (λ fs. ReadFrom fs name.now at buf.new n)) }
-        ensures cause { IfErr result (IsShelfCause (seen self.old).files name.now (ReadFailed (seen self.old) (seen self.new))) }
+        ensures cause { IfErr result (IsShelfCause (seen self.old).files name.now (ReadFailed (seen self.old)
+            (seen self.new))) }
         ensures reads { OnlyReads (seen self.old) (seen self.new) };
 
     /// Makes the named file empty, whether it was there or not. It never answers `Missing`.
@@ -57,8 +59,10 @@ pub trait Shelf {
     /// not empty.
     fn append(&mut self, name: &str, piece: &[u8]) -> Result<usize, ShelfFault>
         ensures some { IfOk result (TakesSome piece.now) }
-        ensures added { IfOk result (λ n. ForBoth (seen self.old).files (seen self.new).files (FileGains name.now (take n piece.now))) }
+        ensures added { IfOk result (λ n. ForBoth (seen self.old).files (seen self.new).files (FileGains name.now
+            (take n piece.now))) }
         ensures kept { OnErr result ((seen self.new).files ≡ (seen self.old).files) }
-        ensures cause { IfErr result (IsShelfCause (seen self.old).files name.now (WriteFailed (seen self.old) (seen self.new))) }
+        ensures cause { IfErr result (IsShelfCause (seen self.old).files name.now (WriteFailed (seen self.old)
+            (seen self.new))) }
         ensures writes { OnlyWrites (seen self.old) (seen self.new) };
 }

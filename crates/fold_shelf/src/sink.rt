@@ -35,7 +35,8 @@ pub trait Sink {
     /// Takes the first bytes of `piece` and says how many: at least one where it is not empty.
     fn write(&mut self, piece: &[u8]) -> Result<usize, SinkFault>
         ensures some { IfOk result (TakesSome piece.now) }
-        ensures took { IfOk result (λ n. ForBoth (seen self.old).taken (seen self.new).taken (Took (take n piece.now))) }
+        ensures took { IfOk result (λ n. ForBoth (seen self.old).taken (seen self.new).taken (Took
+            (take n piece.now))) }
         ensures kept { OnErr result ((seen self.new).taken ≡ (seen self.old).taken) }
         ensures cause { IfErr result (IsSinkCause (seen self.old) (seen self.new)) }
         ensures later { (seen self.old).faults ≤ (seen self.new).faults };

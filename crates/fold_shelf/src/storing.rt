@@ -9,8 +9,10 @@ use crate::shelf::{PIECE, Shelf, ShelfFault};
 /// fault it is as before, or holds a first part of them. It never answers `Missing`: a name that goes missing on
 /// the way is a failure of the shelf.
 pub fn store<S: Shelf>(shelf: &mut S, name: &str, bytes: &[u8]) -> Result<(), ShelfFault>
-    ensures stored { OnOk result (ForBoth (S.seen shelf.old).files (S.seen shelf.new).files (FileHolds name.now bytes.now)) }
-    ensures part { OnErr result (ForBoth (S.seen shelf.old).files (S.seen shelf.new).files (StoredPart name.now bytes.now)) }
+    ensures stored { OnOk result (ForBoth (S.seen shelf.old).files (S.seen shelf.new).files
+        (FileHolds name.now bytes.now)) }
+    ensures part { OnErr result (ForBoth (S.seen shelf.old).files (S.seen shelf.new).files
+        (StoredPart name.now bytes.now)) }
     ensures cause { IfErr result (IsCreateCause (S.seen shelf.old) (S.seen shelf.new)) }
     ensures writes { OnlyWrites (S.seen shelf.old) (S.seen shelf.new) }
 {

@@ -1,6 +1,7 @@
 //! The link matrix: the products of the linking rows and the vectors that keep a brick's rows met.
 
-ghost use Rattle.std.specs.Prelude.{◌≡◌, ◌≤◌, ◌<◌, ◌^◌, ◌++◌, length, map, All, IfOk, IfErr, OnOk, SomeIff, unsigned_abs};
+ghost use Rattle.std.specs.Prelude.{◌≡◌, ◌≤◌, ◌<◌, ◌^◌, ◌++◌, length, map, All, IfOk, IfErr, OnOk, SomeIff};
+ghost use Rattle.std.specs.Prelude.{unsigned_abs};
 ghost use Rattle.lattice_theory.specs.Vectors as vector;
 ghost use Rattle.lattice_theory.specs.BasisLimits.{IsNarrow};
 ghost use Rattle.run_theory.specs.Links as links;

@@ -16,8 +16,8 @@ use pottier::Basis;
 /// The greatest 1-norm of a first part `w` of the elements `(w, m·w)` that count in this phase, and at least 2 where
 /// `m` has a nonzero entry, 1 where it has none. `b` is the slack basis of `m`. No memory is taken.
 ///
-/// There is a relation for each row of `m`. In phase `Closed` only elements with `m·w = 0` in each row that is an equation
-/// count, in phase `Counted` all.
+/// There is a relation for each row of `m`. In phase `Closed` only elements with `m·w = 0` in each row that is an
+/// equation count, in phase `Counted` all.
 pub fn complexity(b: &Basis, m: &Matrix, phase: Phase, relations: &[Relation]) -> u64
     requires basis { IsSlackBasis m.now b.now.elements }
     requires rows { length relations.now ≡ length m.now.rows }

@@ -1,6 +1,7 @@
 //! The atomic steps on a board, each of which is an event of the round.
 
-ghost use Rattle.std.specs.Prelude.{◌≡◌, ◌≢◌, ℕ, suc, ◌+◌, ◌*◌, ◌/◌, ◌%◌, ◌^◌, ◌<◌, ◌⊎◌, length, All, IfSome, Option, Some, IsTrue};
+ghost use Rattle.std.specs.Prelude.{◌≡◌, ◌≢◌, ℕ, suc, ◌+◌, ◌*◌, ◌/◌, ◌%◌, ◌^◌, ◌<◌, ◌⊎◌, length, All, IfSome, Option};
+ghost use Rattle.std.specs.Prelude.{Some, IsTrue};
 ghost use Rattle.run_theory.specs.Keys.{IsNoWorse};
 ghost use Rattle.round_core.specs.declared.parts.Fate.TheVariants.{Open, HalfWritten, Written, Offered};
 ghost use Rattle.round_core.specs.declared.parts.Stand.TheVariants.{Working};

@@ -3,8 +3,8 @@
 ghost use Rattle.std.specs.Prelude.{◌≡◌, ◌≤◌, ◌<◌, ◌^◌, ◌*◌, ◌*ℤ◌, length, All, unsigned_abs};
 ghost use Rattle.lattice_theory.specs.Vectors as vector;
 
-/// The sum of the products at each place, of a row of a matrix and a vector. Entries of the row are below `2^31` in absolute
-/// value, those of the vector below `2^63`, and there are at most `2^20`.
+/// The sum of the products at each place, of a row of a matrix and a vector. Entries of the row are below `2^31` in
+/// absolute value, those of the vector below `2^63`, and there are at most `2^20`.
 pub fn dot(a: &[i64], b: &[i64]) -> i128
     requires same { length a.now ≡ length b.now }
     requires few { length a.now ≤ 2 ^ 20 }

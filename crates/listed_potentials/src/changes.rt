@@ -34,7 +34,8 @@ pub(crate) fn changes(
     requires sums { sums.now.cols ≡ 1 + program.now.link.cols }
     requires modest { All IsModest (vectors_of sums.now.rows) }
     requires room { length to.old ≡ program.now.link.cols }
-    ensures changes { IfOk result (λ cs. OfBrick program.now brick (λ b. cs.items ≡ changes_of phase (vectors_of sums.now.rows) b at.now)) }
+    ensures changes { IfOk result (λ cs. OfBrick program.now brick (λ b. cs.items ≡ changes_of phase
+        (vectors_of sums.now.rows) b at.now)) }
     ensures small { IfOk result (λ cs. All (λ c. IfSome c (λ d. unsigned_abs d ≤ 2 ^ 121)) cs.items) }
 {
     prove!(brick <= program.n());

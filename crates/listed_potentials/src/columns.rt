@@ -1,6 +1,7 @@
 //! The table of potentials, sum by sum.
 
-ghost use Rattle.std.specs.Prelude.{◌≡◌, ◌<◌, ◌≤◌, ◌+◌, ◌^◌, length, map, All, Some, unsigned_abs, IfOk, IfSome, slice_get, IsTrue};
+ghost use Rattle.std.specs.Prelude.{◌≡◌, ◌<◌, ◌≤◌, ◌+◌, ◌^◌, length, map, All, Some, unsigned_abs, IfOk, IfSome};
+ghost use Rattle.std.specs.Prelude.{slice_get, IsTrue};
 ghost use Rattle.lattice_theory.specs.Vectors.{is_rising};
 ghost use Rattle.listed_sums.specs.Places.{vectors_of, IsModest};
 ghost use Rattle.listed_potentials.specs.Moves.{places_of, there};
@@ -33,7 +34,8 @@ pub(crate) fn columns_hold(
     requires room { length to.old + 1 ≡ sums.now.cols }
     requires modest { All IsModest (vectors_of sums.now.rows) }
     requires rising { IsTrue (is_rising (vectors_of sums.now.rows)) }
-    ensures { IfOk result (λ b. b ≡ columns.columns_hold (map (λ cs. cs.items) changes.now) (vectors_of sums.now.rows) potentials.now.rows 0 (vectors_of sums.now.rows)) }
+    ensures { IfOk result (λ b. b ≡ columns.columns_hold (map (λ cs. cs.items) changes.now)
+        (vectors_of sums.now.rows) potentials.now.rows 0 (vectors_of sums.now.rows)) }
 {
     for place in 0..sums.rows() {
         let places = places(alloc, sums, vector_of(sums, place), to)?;

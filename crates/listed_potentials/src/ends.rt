@@ -31,7 +31,8 @@ pub(crate) fn ends_hold(
     requires sums { sums.now.cols ≡ 1 + program.now.link.cols }
     requires modest { All IsModest (vectors_of sums.now.rows) }
     requires width { length row.now ≡ length sums.now.rows }
-    ensures { IfOk result (λ b. b ≡ ends.ends_hold program.now phase (vectors_of sums.now.rows) (link_rests program.now point.now) row.now) }
+    ensures { IfOk result (λ b. b ≡ ends.ends_hold program.now phase (vectors_of sums.now.rows)
+        (link_rests program.now point.now) row.now) }
 {
     prove!(program.n() > 0);
     let rests = rests(alloc, program, point)?;
@@ -90,8 +91,8 @@ fn left(rest: i128, row: &[i64], sum: &[i64]) -> i128
     rest - dot(row, sum)
 }
 
-/// What walks cost that end where the linking rows miss so much `after`, of which they missed so much `before`. In phase
-/// `Closed` walks end only where nothing is missed.
+/// What walks cost that end where the linking rows miss so much `after`, of which they missed so much `before`. In
+/// phase `Closed` walks end only where nothing is missed.
 fn end(phase: Phase, before: u128, after: u128) -> Option<i128>
     requires before { before ≤ 2 ^ 118 }
     requires after { after ≤ 2 ^ 118 }

@@ -41,7 +41,9 @@ pub fn potentials_hold(
     requires layers { length potentials.now.rows ≡ 1 + length program.now.bricks }
     requires cols { potentials.now.cols ≡ length sums.now.rows }
     requires cells { All (AreSmall (2 ^ 124)) potentials.now.rows }
-    ensures { IfOk result (λ b. b ≡ (layers_hold program.now phase (vectors_of sums.now.rows) (link_rests program.now point.now) program.now.bricks point.now potentials.now.rows && starts_at_zero program.now (vectors_of sums.now.rows) potentials.now.rows)) }
+    ensures { IfOk result (λ b. b ≡ (layers_hold program.now phase (vectors_of sums.now.rows)
+        (link_rests program.now point.now) program.now.bricks point.now potentials.now.rows && starts_at_zero
+        program.now (vectors_of sums.now.rows) potentials.now.rows)) }
 {
     if !layers_hold(alloc, program, phase, point, sums, potentials)? {
         return Ok(false);
@@ -68,7 +70,8 @@ fn layers_hold(
     requires layers { length potentials.now.rows ≡ 1 + length program.now.bricks }
     requires cols { potentials.now.cols ≡ length sums.now.rows }
     requires cells { All (AreSmall (2 ^ 124)) potentials.now.rows }
-    ensures { IfOk result (λ b. b ≡ layers_hold program.now phase (vectors_of sums.now.rows) (link_rests program.now point.now) program.now.bricks point.now potentials.now.rows) }
+    ensures { IfOk result (λ b. b ≡ layers_hold program.now phase (vectors_of sums.now.rows)
+        (link_rests program.now point.now) program.now.bricks point.now potentials.now.rows) }
 {
     prove!(potentials.cols() >= sums.rows());
     let last = potentials.row(program.n());
@@ -95,7 +98,8 @@ fn all_changes(
     requires sums { sums.now.cols ≡ 1 + program.now.link.cols }
     requires modest { All IsModest (vectors_of sums.now.rows) }
     requires room { length to.old ≡ program.now.link.cols }
-    ensures changes { IfOk result (λ all. map (λ cs. cs.items) all.items ≡ moves.all_changes phase (vectors_of sums.now.rows) program.now.bricks point.now) }
+    ensures changes { IfOk result (λ all. map (λ cs. cs.items) all.items ≡ moves.all_changes phase
+        (vectors_of sums.now.rows) program.now.bricks point.now) }
     ensures small { IfOk result (λ all. All (λ cs. AreSmall (2 ^ 121) cs.items) all.items) }
 {
     let mut all = Vec::with_capacity(alloc, program.n() as usize)?;

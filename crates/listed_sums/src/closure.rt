@@ -1,6 +1,7 @@
 //! Whether a list of sums is closed under one more generator.
 
-ghost use Rattle.std.specs.Prelude.{◌≡◌, ◌≤◌, ◌<◌, ◌+◌, ◌&&◌, ◌||◌, length, nat_le, suc, IsTrue, IfOk, IfSome, All, slice_get};
+ghost use Rattle.std.specs.Prelude.{◌≡◌, ◌≤◌, ◌<◌, ◌+◌, ◌&&◌, ◌||◌, length, nat_le, suc, IsTrue, IfOk, IfSome, All};
+ghost use Rattle.std.specs.Prelude.{slice_get};
 ghost use Rattle.std.specs.List.{list_all};
 ghost use Rattle.lattice_theory.specs.Vectors.{add, sub};
 ghost use Rattle.lattice_theory.specs.Vectors as vector;
@@ -27,7 +28,8 @@ pub fn are_closed(
     requires few { length sums.now.rows ≤ 20000 }
     requires modest { All IsModest (vectors_of sums.now.rows) }
     requires narrow { All IsNarrow generators.now.rows }
-    ensures { IfOk result (λ b. b ≡ sums_are_closed generators.now.cols generators.now.rows bound (sums_of sums.now.rows)) }
+    ensures { IfOk result (λ b. b ≡ sums_are_closed generators.now.cols generators.now.rows bound
+        (sums_of sums.now.rows)) }
 {
     if !is_rising(sums) {
         return Ok(false);
@@ -82,7 +84,8 @@ fn neighbours_are_listed(sums: &Matrix, generators: &Matrix, bound: u64, w: &mut
     requires modest { All IsModest (vectors_of sums.now.rows) }
     requires narrow { All IsNarrow generators.now.rows }
     requires rising { IsTrue (vector.is_rising (vectors_of sums.now.rows)) }
-    ensures { result ≡ list_all (is_closed_at (sums_of sums.now.rows) generators.now.rows bound) (sums_of sums.now.rows) }
+    ensures { result ≡ list_all (is_closed_at (sums_of sums.now.rows) generators.now.rows bound)
+        (sums_of sums.now.rows) }
 {
     for place in 0..sums.rows() {
         if !is_closed_at(sums, generators, bound, place, w) {
@@ -101,7 +104,8 @@ fn is_closed_at(sums: &Matrix, generators: &Matrix, bound: u64, place: u32, w: &
     requires modest { All IsModest (vectors_of sums.now.rows) }
     requires narrow { All IsNarrow generators.now.rows }
     requires rising { IsTrue (vector.is_rising (vectors_of sums.now.rows)) }
-    ensures { IfSome (slice_get (sums_of sums.now.rows) place) (λ s. result ≡ is_closed_at (sums_of sums.now.rows) generators.now.rows bound s) }
+    ensures { IfSome (slice_get (sums_of sums.now.rows) place) (λ s. result ≡ is_closed_at
+        (sums_of sums.now.rows) generators.now.rows bound s) }
 {
     let level = level_of(sums, place);
     bound <= level || are_listed(sums, generators, level + 1, vector_of(sums, place), w)
@@ -116,7 +120,8 @@ fn are_listed(sums: &Matrix, generators: &Matrix, level: u64, sum: &[i64], w: &m
     requires modest { IsModest sum.now }
     requires narrow { All IsNarrow generators.now.rows }
     requires rising { IsTrue (vector.is_rising (vectors_of sums.now.rows)) }
-    ensures { result ≡ list_all (λ e. is_sum_within (sums_of sums.now.rows) level (add sum.now e) && is_sum_within (sums_of sums.now.rows) level (sub sum.now e)) generators.now.rows }
+    ensures { result ≡ list_all (λ e. is_sum_within (sums_of sums.now.rows) level (add sum.now e) && is_sum_within
+        (sums_of sums.now.rows) level (sub sum.now e)) generators.now.rows }
 {
     for row in 0..generators.rows() {
         let generator = generators.row(row + 1);

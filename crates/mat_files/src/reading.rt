@@ -18,7 +18,8 @@ use std::alloc::Global;
 /// file, or `Memory`. No memory is asked for before there are entries to keep in it.
 pub fn parse(alloc: Global, bytes: &[u8], shape: &Shape) -> Result<Matrix, MatFault>
     requires { shape.now.largest ≤ 2 ^ 62 }
-    ensures { MatchResult result (λ m. parsed_matrix shape.now bytes.now ≡ Ok m) (IsMatFault (parsed_matrix shape.now bytes.now)) }
+    ensures { MatchResult result (λ m. parsed_matrix shape.now bytes.now ≡ Ok m) (IsMatFault
+        (parsed_matrix shape.now bytes.now)) }
 {
     Ok(shaped(alloc, bytes, shape)?)
 }

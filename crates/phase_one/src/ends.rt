@@ -11,8 +11,8 @@ pub enum Start {
         point: Point,
         traces: Vec<Vec<BrickStep>>,
     },
-    /// This brick, numbered from 1, is the first that is stuck: its run, which is the last one, ends at the point, and misses
-    /// its rows by the residual, which is above 0.
+    /// This brick, numbered from 1, is the first that is stuck: its run, which is the last one, ends at the point,
+    /// and misses its rows by the residual, which is above 0.
     Stuck {
         brick: u32,
         point: Vec<i64>,

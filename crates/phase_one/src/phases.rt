@@ -14,8 +14,8 @@ pub fn counted(program: &Program, p: &Point) -> bool
     judge(program, p) != 0
 }
 
-/// What the point misses of the linking rows in all, which is its cost in phase `Counted`: at most `2^117`. No memory is
-/// taken.
+/// What the point misses of the linking rows in all, which is its cost in phase `Counted`: at most `2^117`. No memory
+/// is taken.
 pub fn judge(program: &Program, p: &Point) -> u128
     requires { HasPointShape program.now p.now }
     ensures miss { result ≡ link_miss program.now (link_rests program.now p.now) }

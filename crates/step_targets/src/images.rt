@@ -4,7 +4,8 @@ ghost use Rattle.std.specs.Prelude.{◌≡◌, ◌<◌, ◌≤◌, ◌^◌, ◌*
 ghost use Rattle.lattice_theory.specs.Vectors.{dot};
 ghost use Rattle.lattice_theory.specs.BasisLimits.{IsNarrow};
 
-/// The product of a row and a sum: the row's entries are below `2^31` in absolute value, and the sum has at most 32 entries.
+/// The product of a row and a sum: the row's entries are below `2^31` in absolute value, and the sum has at most 32
+/// entries.
 pub fn image(row: &[i64], sum: &[i64]) -> i128
     requires narrow { IsNarrow row.now }
     requires width { length sum.now ≤ 32 }

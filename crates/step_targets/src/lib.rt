@@ -1,5 +1,5 @@
-//! Where a step leads that one brick takes: its vector after `2^k` times the step's part, where that is within the bounds;
-//! and what a sum of parts changes of a linking row.
+//! Where a step leads that one brick takes: its vector after `2^k` times the step's part, where that is within the
+//! bounds; and what a sum of parts changes of a linking row.
 #![tactic(auto)]
 
 mod images;

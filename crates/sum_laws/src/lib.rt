@@ -11,8 +11,8 @@ ghost use Rattle.run_theory.specs.BrickSums.{AreBrickSums};
 ghost use Rattle.run_theory.specs.Folds.{IsSmallImage};
 
 /// Law: each brick sum has an entry for each column; and where the link matrix is narrow and there are at most 20,000
-/// sums, none of them changes a linking row by more than `2^50`, since it is a sum of few generators. Where the generators
-/// are narrow, no entry of a sum is past `2^47` for the same reason.
+/// sums, none of them changes a linking row by more than `2^50`, since it is a sum of few generators. Where the
+/// generators are narrow, no entry of a sum is past `2^47` for the same reason.
 pub fn brick_sums_make_a_fold()
     ensures widths { (p : Program) (phase : Phase) (b : Bases) (sums : List Sum) →
         AreBases p b → AreBrickSums p phase b sums → All (λ w. length w ≡ p.brick.cols) (vectors sums) }

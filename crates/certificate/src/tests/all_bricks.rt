@@ -186,7 +186,7 @@ fn names_the_first_fault_of_links_and_sums(rt: HostRuntime) -> Result<(), Fail> 
 }
 
 #[test]
-fn names_the_first_fault_of_the_potentials(rt: HostRuntime) -> Result<(), Fail> {
+fn names_the_first_fault_of_the_size_of_the_potentials(rt: HostRuntime) -> Result<(), Fail> {
     let alloc = rt.alloc();
     assert!(rt;
         is_refused(
@@ -212,6 +212,12 @@ fn names_the_first_fault_of_the_potentials(rt: HostRuntime) -> Result<(), Fail> 
             CertKind::TooMany
         )?
     );
+    Ok(())
+}
+
+#[test]
+fn names_the_first_fault_of_the_cells(rt: HostRuntime) -> Result<(), Fail> {
+    let alloc = rt.alloc();
     assert!(rt;
         is_refused(
             alloc,

@@ -1,6 +1,7 @@
 //! Which parts make a program.
 
-ghost use Rattle.std.specs.Prelude.{◌≡◌, ◌≤◌, ◌<◌, ◌+◌, ◌*◌, ◌/◌, ◌%◌, ◌^◌, ◌-◌, ◌≤ℤ◌, None, Some, [], IfOk, IfErr, OnOk, IfSome, IfNone, MatchOption, length, map, sum_by, min, All, IsTrue};
+ghost use Rattle.std.specs.Prelude.{◌≡◌, ◌≤◌, ◌<◌, ◌+◌, ◌*◌, ◌/◌, ◌%◌, ◌^◌, ◌-◌, ◌≤ℤ◌, None, Some, [], IfOk, IfErr};
+ghost use Rattle.std.specs.Prelude.{OnOk, IfSome, IfNone, MatchOption, length, map, sum_by, min, All, IsTrue};
 ghost use Rattle.std.specs.List.{AllZip, zip};
 ghost use Rattle.fold_theory.specs.Programs.{IsProgram};
 ghost use Rattle.convex_costs.specs.Bounds.{AreBounded};
@@ -24,7 +25,8 @@ const LARGEST: u128 = 1 << 120;
 
 impl Program {
     /// The program that the parts make, whose linking rows are equations, or the first fault in the order of
-    /// `ProgramFault`. Entries of the two matrices are within `2^31 - 1`; bounds, right sides and the numbers of the costs are within `2^62`.
+    /// `ProgramFault`. Entries of the two matrices are within `2^31 - 1`; bounds, right sides and the numbers of the
+    /// costs are within `2^62`.
     pub fn new(alloc: Global, parts: Parts) -> Result<Program, ProgramFault>
         requires limits { AreWithinLimits (parts_value parts) }
         ensures made { IfOk result (λ p. p ≡ program_of (parts_value parts)) }
@@ -129,8 +131,10 @@ impl Place {
 fn first_crossed(cols: u32, lower: &[i64], upper: &[i64]) -> Option<usize>
     requires { length lower.now ≡ length upper.now }
     ensures inside { IfSome result (λ at. at < length lower.now) }
-    ensures none { IfNone result ((AllZip ◌≤ℤ◌ lower.now upper.now) × (scan (crossed_at cols) 0 (zip lower.now upper.now) ≡ [])) }
-    ensures first { IfSome result (λ at. head_of (scan (crossed_at cols) 0 (zip lower.now upper.now)) ≡ Some (refused.CrossedBounds (at / cols + 1) (at % cols + 1))) }
+    ensures none { IfNone result ((AllZip ◌≤ℤ◌ lower.now upper.now) × (scan (crossed_at cols) 0
+        (zip lower.now upper.now) ≡ [])) }
+    ensures first { IfSome result (λ at. head_of (scan (crossed_at cols) 0 (zip lower.now upper.now)) ≡ Some
+        (refused.CrossedBounds (at / cols + 1) (at % cols + 1))) }
 {
     for (at, low) in lower.iter().enumerate() {
         if upper[at] < *low {
@@ -158,7 +162,8 @@ fn bound_costs(
     requires order { AllZip ◌≤ℤ◌ lower.now upper.now }
     ensures bound { IfOk result (λ cs. AreBoundCosts costs.items lower.now upper.now cs.items) }
     ensures none { OnOk result (scan (fault_at cols) 0 (zip costs.items (zip lower.now upper.now)) ≡ []) }
-    ensures refused { IfErr result (IsCostRefusal (scan (fault_at cols) 0 (zip costs.items (zip lower.now upper.now)))) }
+    ensures refused { IfErr result (IsCostRefusal (scan (fault_at cols) 0 (zip costs.items
+        (zip lower.now upper.now)))) }
 {
     let mut bound = Vec::new(alloc);
     for cost in costs {

@@ -1,6 +1,7 @@
 //! What a point breaks: the bounds first, then the rows of the bricks, then the linking rows.
 
-ghost use Rattle.std.specs.Prelude.{◌≡◌, ◌≤◌, ◌*◌, ◌^◌, length, map, nat_eq, unsigned_abs, IfSome, IfNone, All, OnSome, ◌-ℤ◌};
+ghost use Rattle.std.specs.Prelude.{◌≡◌, ◌≤◌, ◌*◌, ◌^◌, length, map, nat_eq, unsigned_abs, IfSome, IfNone, All};
+ghost use Rattle.std.specs.Prelude.{OnSome, ◌-ℤ◌};
 ghost use Rattle.lattice_theory.specs.Vectors.{sub, IsBoundedRow};
 ghost use Rattle.lattice_theory.specs.Matrices.{product};
 ghost use Rattle.lattice_theory.specs.BasisLimits.{IsNarrow};
@@ -15,8 +16,9 @@ use int_vectors::dot;
 use mat_files::Matrix;
 
 impl Program {
-    /// The first thing that the point breaks: a bound, brick by brick and column by column; else a row of a brick; else a
-    /// linking row. None exactly where the point is feasible. The point has a vector of `t` entries for each brick.
+    /// The first thing that the point breaks: a bound, brick by brick and column by column; else a row of a brick;
+    /// else a linking row. None exactly where the point is feasible. The point has a vector of `t` entries for each
+    /// brick.
     pub fn broken(&self, p: &Point) -> Option<Broken>
         requires shape { HasPointShape self.now p.now }
         ensures first { result ≡ first_break self.now p.now }
@@ -45,7 +47,8 @@ impl Program {
     /// The first bound that the point breaks.
     fn broken_bound(&self, p: &Point) -> Option<Broken>
         requires shape { HasPointShape self.now p.now }
-        ensures { result ≡ first_of (over_bricks (λ i b v. bound_breaks i 1 b.lower b.upper v) 1 self.now.bricks p.now) }
+        ensures { result ≡ first_of (over_bricks (λ i b v. bound_breaks i 1 b.lower b.upper v) 1 self.now.bricks
+            p.now) }
     {
         for brick in 1..=self.n() {
             let (lower, upper) = (self.lower_row(brick), self.upper_row(brick));
@@ -59,7 +62,8 @@ impl Program {
     /// The first brick row that the point misses.
     fn missed_brick_row(&self, p: &Point) -> Option<Broken>
         requires shape { HasPointShape self.now p.now }
-        ensures { result ≡ first_of (over_bricks (λ i b v. row_breaks (Broken.BrickRow i) 1 (map unsigned_abs (brick_rests self.now b v))) 1 self.now.bricks p.now) }
+        ensures { result ≡ first_of (over_bricks (λ i b v. row_breaks (Broken.BrickRow i) 1 (map unsigned_abs
+            (brick_rests self.now b v))) 1 self.now.bricks p.now) }
     {
         for brick in 1..=self.n() {
             let right = self.right_row(brick);
@@ -111,7 +115,8 @@ fn missed_row_of(brick: u32, matrix: &Matrix, right: &[i64], vector: &[i64]) -> 
     requires width { length vector.now ≤ 32 }
     requires narrow { All IsNarrow matrix.now.rows }
     requires bounded { IsBoundedRow vector.now }
-    ensures { result ≡ first_of (row_breaks (Broken.BrickRow brick) 1 (map unsigned_abs (sub right.now (product matrix.now vector.now)))) }
+    ensures { result ≡ first_of (row_breaks (Broken.BrickRow brick) 1 (map unsigned_abs (sub right.now
+        (product matrix.now vector.now)))) }
 {
     for (at, right) in right.iter().enumerate() {
         let row = at as u32 + 1;

@@ -22,8 +22,8 @@ impl Program {
         is_at_most(self.lower_row(brick), vector) && is_at_most(vector, self.upper_row(brick))
     }
 
-    /// How far the vector is from meeting the rows of a brick: the sum over its rows of what their right sides differ from
-    /// their products with the vector, which has `t` entries, whatever they are.
+    /// How far the vector is from meeting the rows of a brick: the sum over its rows of what their right sides differ
+    /// from their products with the vector, which has `t` entries, whatever they are.
     pub fn residual(&self, brick: u32, vector: &[i64]) -> u128
         requires from { 1 ≤ brick }
         requires to { brick ≤ length self.now.bricks }

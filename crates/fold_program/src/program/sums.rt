@@ -4,7 +4,8 @@ ghost use Rattle.std.specs.Prelude.{◌≡◌, ◌≤◌, ◌-◌, ◌^◌, ◌-
 ghost use Rattle.std.specs.List.{AllZip};
 ghost use Rattle.lattice_theory.specs.Lists.{greatest, zip_with, sum_zip};
 ghost use Rattle.fold_theory.specs.Costs.{value, magnitude};
-ghost use Rattle.fold_theory.specs.Programs.{AreWithin, IsWithin, brick_cost, cost, dist, link_miss, link_rests, widest};
+ghost use Rattle.fold_theory.specs.Programs.{AreWithin, IsWithin, brick_cost, cost, dist, link_miss, link_rests};
+ghost use Rattle.fold_theory.specs.Programs.{widest};
 ghost use Rattle.fold_program.specs.Points.{HasPointShape};
 ghost use Rattle.fold_program.specs.Refusals.{brick_magnitude};
 ghost use Rattle.fold_program.specs.Places.{ForBrick, OfBrick, OfColumn, OfRow};
@@ -17,8 +18,8 @@ use fold_theory::Relation;
 use int_vectors::dot;
 
 impl Program {
-    /// The right side of a linking row less the sum over all bricks of that row's product with the point: at most `2^113` in
-    /// absolute value.
+    /// The right side of a linking row less the sum over all bricks of that row's product with the point: at most
+    /// `2^113` in absolute value.
     pub fn rest(&self, p: &Point, row: u32) -> i128
         requires shape { HasPointShape self.now p.now }
         requires from { 1 ≤ row }
@@ -34,8 +35,8 @@ impl Program {
         rest
     }
 
-    /// What a linking row misses where its right side less its sum is this rest: nothing where it is met, and else what it
-    /// takes to bring its sum to its right side.
+    /// What a linking row misses where its right side less its sum is this rest: nothing where it is met, and else
+    /// what it takes to bring its sum to its right side.
     pub fn missed(&self, row: u32, rest: i128) -> u128
         requires from { 1 ≤ row }
         requires to { row ≤ length self.now.link.rows }
@@ -66,13 +67,15 @@ impl Program {
         widest_of(self.lower.entries(), self.upper.entries())
     }
 
-    /// The cost of one column at `v`, which lies within the column's bounds: at most the cost's magnitude in absolute value.
+    /// The cost of one column at `v`, which lies within the column's bounds: at most the cost's magnitude in absolute
+    /// value.
     pub fn cost_at(&self, brick: u32, col: u32, v: i64) -> i128
         requires within { OfColumn self.now brick col (λ lower upper _. (lower ≤ℤ v) × (v ≤ℤ upper)) }
         requires from { 1 ≤ brick }
         requires left { 1 ≤ col }
         ensures cost { OfColumn self.now brick col (λ _ _ cost. result ≡ value cost v) }
-        ensures small { OfColumn self.now brick col (λ lower upper cost. unsigned_abs result ≤ magnitude cost lower upper) }
+        ensures small { OfColumn self.now brick col
+            (λ lower upper cost. unsigned_abs result ≤ magnitude cost lower upper) }
     {
         self.costs_of(brick)[col as usize - 1].value(v)
     }
@@ -89,8 +92,8 @@ impl Program {
         cost_of(self.costs_of(brick), vector)
     }
 
-    /// The cost of the point, which lies within the bounds: the sum over all bricks and columns, at most `2^120` in absolute
-    /// value.
+    /// The cost of the point, which lies within the bounds: the sum over all bricks and columns, at most `2^120` in
+    /// absolute value.
     pub fn cost(&self, p: &Point) -> i128
         requires within { AreWithin self.now.bricks p.now }
         ensures cost { result ≡ cost self.now p.now }
