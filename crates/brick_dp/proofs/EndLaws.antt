@@ -21,19 +21,6 @@ use Rattle.layer_sieve.specs.Reaching.{AreAtMost}
 use Rattle.brick_dp.specs.Ends.{ending, end_at}
 use Rattle.brick_dp.proofs.ChangeLaws.{at_same, slice_get-push}
 
--- one place on, the product at that place goes from what is left into the sum
-pub image-step : (sum a x whole : ℤ) (u v u' v' : Vector) → u ≡ a ∷ u' → v ≡ x ∷ v' → sum +ℤ dot u v ≡ whole → (sum +ℤ a *ℤ x) +ℤ dot u' v' ≡ whole
-image-step sum a x whole u v u' v' left right so_far =
-    let opened : sum +ℤ (a *ℤ x +ℤ dot u' v') ≡ whole = rw (left, right) at so_far in
-    omega (arith, ints, opened)
-
--- where nothing is left of one of the two, the sum so far is all of it
-pub image-done : (sum whole : ℤ) (u v : Vector) → (length u ≡ 0) ⊎ (length v ≡ 0) → sum +ℤ dot u v ≡ whole → sum ≡ whole
-image-done sum whole [] v ended so_far = omega (arith, ints, so_far)
-image-done sum whole (x ∷ u) [] ended so_far = omega (arith, ints, so_far)
-image-done sum whole (x ∷ u) (y ∷ v) (inl e) so_far = absurd (omega arith)
-image-done sum whole (x ∷ u) (y ∷ v) (inr e) so_far = absurd (omega arith)
-
 -- what one row misses after a step
 pub left-at : (l : ℤ) (rests : Vector) (rows : List Vector) (w row : Vector) (at : ℕ) → at < length rests → slice_get rows at ≡ Some row →
     get_or (sub rests (scale l (map (λ r. dot r w) rows))) at (pos 0) ≡ get_or rests at (pos 0) -ℤ l *ℤ dot row w
@@ -126,27 +113,6 @@ ending_is f k x w rests before after phase p cell program_is rests_are phase_is 
 pub row_at : (rows : List Vector) (at : ℕ) (row : Vector) → All IsNarrow rows → slice_get rows at ≡ Some row → IsNarrow row
 row_at rows at row narrow there =
     subst IsNarrow (get_or_from_slice_get rows at row row there) (narrow at row (slice_get_within rows at row there))
-
--- the number at a place, of a list that has so many first ones
-pub take_next : (xs now next : List ℤ) (at : ℕ) (x : ℤ) → slice_get xs at ≡ Some x → next ≡ now ++ x ∷ [] → now ≡ take at xs → next ≡ take (at + 1) xs
-take_next xs now next at x there pushed so_far =
-    let low = slice_get_within xs at x there in
-    let entry : get_or xs at (pos 0) ≡ x = get_or_from_slice_get xs at x (pos 0) there in
-    pushed ∙ (λ i. so_far i ++ sym entry i ∷ []) ∙ sym (take_more xs at (pos 0) low)
-
-pub all_next : (now next : Vector) (x : ℤ) → next ≡ now ++ x ∷ [] → All (λ rest. unsigned_abs rest ≤ 2 ^ 113) now → unsigned_abs x ≤ 2 ^ 113 →
-    All (λ rest. unsigned_abs rest ≤ 2 ^ 113) next
-all_next now next x is so_far here =
-    subst (All (λ rest. unsigned_abs rest ≤ 2 ^ 113)) (sym is) (All-push (λ rest. unsigned_abs rest ≤ 2 ^ 113) now x so_far here)
-
-pub length-rests : (p : Program) (x : Bricks) → length p.link_right ≡ length p.link.rows → length (link_rests p x) ≡ length p.link.rows
-length-rests p x same = by p.link.rows p.link_right same
-  where
-    by : (rows : List Vector) (rights : Vector) → length rights ≡ length rows →
-        length (zip_with (λ row right. right -ℤ total (map (dot row) x)) rows rights) ≡ length rows
-    by [] rights e = refl
-    by (row ∷ rows) [] e = absurd (omega arith)
-    by (row ∷ rows) (r ∷ rights) e = ap suc (by rows rights (omega arith))
 
 -- ---- how large the costs of ends are
 

@@ -12,6 +12,7 @@ ghost use Rattle.brick_dp.specs.Ends.{end_at, IsLastLayer};
 use crate::folds::Fold;
 use fold_program::{Phase, Point, Program};
 use std::alloc::{AllocError, Global};
+use step_targets::image;
 
 /// The last layer of walks from a point.
 pub(crate) fn last_layer(
@@ -26,7 +27,7 @@ pub(crate) fn last_layer(
 {
     let program = fold.program();
     prove!(program.n() > 0);
-    let rests = rests(alloc, program, point)?;
+    let rests = program.rests(alloc, point)?;
     let before = program.link_residual(point);
     let mut layer = Vec::with_capacity(alloc, fold.sums().len() as usize)?;
     for i in 0..fold.sums().len() {
@@ -34,20 +35,6 @@ pub(crate) fn last_layer(
         layer.push(end(fold.phase(), before, after))?;
     }
     Ok(layer)
-}
-
-/// What each linking row has left of its right side: at most `2^113` in absolute value.
-fn rests(alloc: Global, program: &Program, point: &Point) -> Result<Vec<i128>, AllocError>
-    requires { HasPointShape program.now point.now }
-    ensures rests { IfOk result (λ rests. rests.items ≡ link_rests program.now point.now) }
-    ensures small { IfOk result (λ rests. All (λ rest. unsigned_abs rest ≤ 2 ^ 113) rests.items) }
-{
-    prove!(program.n() > 0);
-    let mut rests = Vec::with_capacity(alloc, program.r() as usize)?;
-    for row in 0..program.r() {
-        rests.push(program.rest(point, row + 1))?;
-    }
-    Ok(rests)
 }
 
 /// What the linking rows miss after `2^k` times the sum, in all.
@@ -90,28 +77,6 @@ fn further(length: u64, image: i128) -> i128
     ensures small { unsigned_abs result ≤ 2 ^ 113 }
 {
     i128::from(length) * image
-}
-
-/// The product of a row and a sum.
-fn image(row: &[i64], sum: &[i64]) -> i128
-    requires narrow { IsNarrow row.now }
-    requires width { length sum.now ≤ 32 }
-    ensures { result ≡ dot row.now sum.now }
-{
-    let mut image = 0;
-    for (a, x) in row.iter().zip(sum) {
-        image += times(*a, *x);
-    }
-    image
-}
-
-/// The product of a coefficient and an entry.
-fn times(a: i64, x: i64) -> i128
-    requires { unsigned_abs a < 2 ^ 31 }
-    ensures value { result ≡ a *ℤ x }
-    ensures small { unsigned_abs result ≤ 2 ^ 94 }
-{
-    i128::from(a) * i128::from(x)
 }
 
 /// What walks cost that end where the linking rows miss so much `after`, of which they missed so much `before`. In phase

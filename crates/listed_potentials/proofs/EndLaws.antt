@@ -80,29 +80,3 @@ pub end-cost : (p : Program) (phase : Phase) (rests image : Vector) →
     end_cost p phase rests image ≡ end_at phase (link_miss p rests) (link_miss p (sub rests image))
 end-cost p Closed rests image = refl
 end-cost p Counted rests image = refl
-
--- ---- rests
-
--- the number at a place, of a list that has so many first ones
-pub take_next : (xs now next : List ℤ) (at : ℕ) (x : ℤ) → slice_get xs at ≡ Some x → next ≡ now ++ x ∷ [] →
-    now ≡ take at xs → next ≡ take (at + 1) xs
-take_next xs now next at x there pushed so_far =
-    let low = slice_get_within xs at x there in
-    let entry : get_or xs at (pos 0) ≡ x = get_or_from_slice_get xs at x (pos 0) there in
-    pushed ∙ (λ i. so_far i ++ sym entry i ∷ []) ∙ sym (take_more xs at (pos 0) low)
-
-pub all_next : (now next : Vector) (x : ℤ) → next ≡ now ++ x ∷ [] → All (λ rest. unsigned_abs rest ≤ 2 ^ 113) now →
-    unsigned_abs x ≤ 2 ^ 113 → All (λ rest. unsigned_abs rest ≤ 2 ^ 113) next
-all_next now next x is so_far here =
-    subst (All (λ rest. unsigned_abs rest ≤ 2 ^ 113)) (sym is)
-    (All-push (λ rest. unsigned_abs rest ≤ 2 ^ 113) now x so_far here)
-
-pub length-rests : (p : Program) (x : Bricks) → length p.link_right ≡ length p.link.rows →
-    length (link_rests p x) ≡ length p.link.rows
-length-rests p x same = by p.link.rows p.link_right same
-  where
-    by : (rows : List Vector) (rights : Vector) → length rights ≡ length rows →
-        length (zip_with (λ row right. right -ℤ total (map (dot row) x)) rows rights) ≡ length rows
-    by [] rights e = refl
-    by (row ∷ rows) [] e = absurd (omega arith)
-    by (row ∷ rows) (r ∷ rights) e = ap suc (by rows rights (omega arith))

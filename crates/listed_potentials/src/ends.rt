@@ -35,7 +35,7 @@ pub(crate) fn ends_hold(
         (link_rests program.now point.now) row.now) }
 {
     prove!(program.n() > 0);
-    let rests = rests(alloc, program, point)?;
+    let rests = program.rests(alloc, point)?;
     let before = program.link_residual(point);
     for place in 0..sums.rows() {
         let after = missed_after(program, &rests, vector_of(sums, place));
@@ -44,20 +44,6 @@ pub(crate) fn ends_hold(
         }
     }
     Ok(true)
-}
-
-/// What each linking row has left of its right side: at most `2^113` in absolute value.
-fn rests(alloc: Global, program: &Program, point: &Point) -> Result<Vec<i128>, AllocError>
-    requires { HasPointShape program.now point.now }
-    ensures rests { IfOk result (λ rests. rests.items ≡ link_rests program.now point.now) }
-    ensures small { IfOk result (λ rests. All (λ rest. unsigned_abs rest ≤ 2 ^ 113) rests.items) }
-{
-    prove!(program.n() > 0);
-    let mut rests = Vec::with_capacity(alloc, program.r() as usize)?;
-    for row in 0..program.r() {
-        rests.push(program.rest(point, row + 1))?;
-    }
-    Ok(rests)
 }
 
 /// What the linking rows miss after the sum, in all.

@@ -1,6 +1,6 @@
 //! What a point costs, what it leaves and misses of the linking rows, and the widest bounds.
 
-ghost use Rattle.std.specs.Prelude.{◌≡◌, ◌≤◌, ◌-◌, ◌^◌, ◌-ℤ◌, ◌≤ℤ◌, Some, length, map, sum_by, slice_get, unsigned_abs};
+ghost use Rattle.std.specs.Prelude.{◌≡◌, ◌≤◌, ◌-◌, ◌^◌, ◌-ℤ◌, ◌≤ℤ◌, Some, All, IfOk, length, map, sum_by, slice_get, unsigned_abs};
 ghost use Rattle.std.specs.List.{AllZip};
 ghost use Rattle.lattice_theory.specs.Lists.{greatest, zip_with, sum_zip};
 ghost use Rattle.fold_theory.specs.Costs.{value, magnitude};
@@ -16,6 +16,7 @@ use crate::program::Program;
 use convex_costs::BoundCost;
 use fold_theory::Relation;
 use int_vectors::dot;
+use std::alloc::{AllocError, Global};
 
 impl Program {
     /// The right side of a linking row less the sum over all bricks of that row's product with the point: at most
@@ -33,6 +34,22 @@ impl Program {
             rest -= dot(coefficients, p.brick(brick));
         }
         rest
+    }
+
+    /// The rests of all linking rows, in order, each at most `2^113` in absolute value. An error comes only where memory
+    /// runs out.
+    pub fn rests(&self, alloc: Global, p: &Point) -> Result<Vec<i128>, AllocError>
+        requires shape { HasPointShape self.now p.now }
+        ensures rests { IfOk result (λ rests. rests.items ≡ link_rests self.now p.now) }
+        ensures count { IfOk result (λ rests. length rests.items ≡ length self.now.link.rows) }
+        ensures small { IfOk result (λ rests. All (λ rest. unsigned_abs rest ≤ 2 ^ 113) rests.items) }
+    {
+        prove!(self.n() > 0);
+        let mut rests = Vec::with_capacity(alloc, self.r() as usize)?;
+        for row in 0..self.r() {
+            rests.push(self.rest(p, row + 1))?;
+        }
+        Ok(rests)
     }
 
     /// What a linking row misses where its right side less its sum is this rest: nothing where it is met, and else

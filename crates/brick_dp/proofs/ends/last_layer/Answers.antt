@@ -2,13 +2,13 @@ use Rattle.std.proofs.Common.{◌≡◌, ◌∙◌, ◌^◌, ap, length}
 use Rattle.lattice_theory.specs.SignedSums.{vectors}
 use Rattle.fold_theory.specs.Programs.{link_rests}
 use Rattle.brick_dp.specs.Ends.{ending}
-use Rattle.brick_dp.proofs.EndLaws.{length-rests, ending_is, AreAtMost-push}
+use Rattle.brick_dp.proofs.EndLaws.{ending_is, AreAtMost-push}
 use Rattle.brick_dp.proofs.LayerLaws.{nodes_more}
 use Rattle.brick_dp.proofs.ends.last_layer.Goals as goal
 
 pub missed_after-after-requires-clause-rests : goal.missed_after-after-requires-clause-rests
 missed_after-after-requires-clause-rests c =
-    ap length (c.deref.ensures.value ∙ c.in_ok-rests.ensures.rests) ∙ length-rests c.program-program.result.now c.args.point.now c.n.ensures.program.right_size
+    ap length c.deref.ensures.value ∙ c.in_ok-rests.ensures.count
 
 pub loop-i-preserved : goal.loop-i-preserved
 loop-i-preserved c =

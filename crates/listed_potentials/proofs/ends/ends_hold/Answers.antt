@@ -9,14 +9,13 @@ use Rattle.complete_lists.proofs.ScanLaws.{at-All}
 use Rattle.listed_sums.specs.Places.{vectors_of, IsModest}
 use Rattle.listed_sums.proofs.RowLaws.{length-vectors_of}
 use Rattle.listed_potentials.specs.Ends.{end_at}
-use Rattle.listed_potentials.proofs.EndLaws.{end-cost, length-rests}
+use Rattle.listed_potentials.proofs.EndLaws.{end-cost}
 use Rattle.listed_potentials.proofs.RowLaws.{zip-at, zip-end}
 use Rattle.listed_potentials.proofs.ends.ends_hold.Goals as goal
 
 pub missed_after-after-requires-clause-rests : goal.missed_after-after-requires-clause-rests
 missed_after-after-requires-clause-rests c =
-    ap length (c.deref.ensures.value ∙ c.in_ok-rests.ensures.rests)
-    ∙ length-rests c.args.program.now c.args.point.now c.n.ensures.program.right_size
+    ap length c.deref.ensures.value ∙ c.in_ok-rests.ensures.count
 
 pub missed_after-after-requires-clause-modest : goal.missed_after-after-requires-clause-modest
 missed_after-after-requires-clause-modest c =
