@@ -19,7 +19,7 @@ pub struct Point {
 impl Model for Point {
     ghost use Rattle.std.specs.Prelude.{All};
     ghost use Rattle.fold_theory.specs.Programs.{Bricks};
-    ghost use Rattle.fold_program.specs.Faults.{IsBoundedRow};
+    ghost use Rattle.lattice_theory.specs.Vectors.{IsBoundedRow};
 
     ghost Value = { Bricks };
 
