@@ -38,11 +38,25 @@ impl Model for Program {
 
     ghost Value = { programs.Program };
 
-    ghost view = { λ p. stored_program (record { link = p.link; brick = p.brick; lower = p.lower; upper = p.upper;
-        right = p.right; costs = p.costs.items; relations = p.relations.items }) };
+    ghost view = { λ p. stored_program (record {
+      link = p.link;
+      brick = p.brick;
+      lower = p.lower;
+      upper = p.upper;
+      right = p.right;
+      costs = p.costs.items;
+      relations = p.relations.items;
+    }) };
 
-    ghost invariant = { λ p. IsKept (record { link = p.link; brick = p.brick; lower = p.lower; upper = p.upper;
-        right = p.right; costs = p.costs.items; relations = p.relations.items }) };
+    ghost invariant = { λ p. IsKept (record {
+      link = p.link;
+      brick = p.brick;
+      lower = p.lower;
+      upper = p.upper;
+      right = p.right;
+      costs = p.costs.items;
+      relations = p.relations.items;
+    }) };
 }
 
 impl Program {

@@ -20,8 +20,11 @@ pub struct FolderShelf<'a, F: Files> {
 impl<'a, F: Files> FolderShelf<'a, F> {
     /// The folder, at which nothing has failed yet.
     pub fn new(files: &'a F) -> FolderShelf<'a, F>
-        ensures { ⟦<FolderShelf<'a, F> as Shelf>⟧.seen result ≡ record { files = None; read_faults = 0;
-            write_faults = 0 } }
+        ensures { ⟦<FolderShelf<'a, F> as Shelf>⟧.seen result ≡ record {
+          files = None;
+          read_faults = 0;
+          write_faults = 0;
+        } }
     {
         FolderShelf {
             files,

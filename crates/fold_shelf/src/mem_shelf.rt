@@ -24,8 +24,11 @@ impl MemShelf {
     pub fn new(alloc: Global, files: Vec<MemFile>, fail: Vec<u64>, most: usize) -> MemShelf
         requires names { IsTrue (names_differ files.items) }
         requires most { 1 ≤ most }
-        ensures { ⟦<MemShelf as Shelf>⟧.seen result ≡ record { files = Some files.items; read_faults = 0;
-            write_faults = 0 } }
+        ensures { ⟦<MemShelf as Shelf>⟧.seen result ≡ record {
+          files = Some files.items;
+          read_faults = 0;
+          write_faults = 0;
+        } }
     {
         MemShelf {
             alloc,

@@ -18,8 +18,11 @@ impl SteadyShelf {
     /// A folder of these files. Nothing is allocated.
     pub fn new(alloc: Global, files: Vec<MemFile>) -> SteadyShelf
         requires { IsTrue (names_differ files.items) }
-        ensures { ⟦<SteadyShelf as Shelf>⟧.seen result ≡ record { files = Some files.items; read_faults = 0;
-            write_faults = 0 } }
+        ensures { ⟦<SteadyShelf as Shelf>⟧.seen result ≡ record {
+          files = Some files.items;
+          read_faults = 0;
+          write_faults = 0;
+        } }
     {
         SteadyShelf {
             alloc,
