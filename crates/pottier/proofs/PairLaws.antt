@@ -1,15 +1,14 @@
 -- Laws of narrow vectors, of their sums, and of the members below a vector.
-use Rattle.std.proofs.Common.{◌≡◌, ℕ, ◌+◌, ◌*◌, ◌<◌, ◌≤◌, ◌^◌, ℤ, ◌+ℤ◌, unsigned_abs, Bool, true, false, not, ◌||◌, cond, List, [], ◌∷◌, ◌++◌, length, take, get_or, refl, ap, arith, sym, ◌∙◌, Contains, inl, inr, subst, Some, None, Vec}
-use Rattle.std.specs.List.{AllByRecursion, position_from}
+use Rattle.std.proofs.Common.{◌≡◌, ℕ, ◌+◌, ◌*◌, ◌<◌, ◌≤◌, ◌^◌, ℤ, neg_ℤ, ◌+ℤ◌, ◌-ℤ◌, unsigned_abs, Bool, true, false, ◌||◌, List, [], ◌∷◌, ◌++◌, length, take, get_or, refl, ap, arith, sym, ◌∙◌, Contains, inl, inr, subst, Vec}
+use Rattle.std.specs.List.{AllByRecursion}
 use Rattle.std.specs.declared.alloc.Global.{Global}
 use Rattle.std.proofs.lemmas.Int.{ints}
-use Rattle.std.proofs.lemmas.Bool.Decides.{nat_tests}
 use Rattle.std.proofs.lemmas.List.{map_more, take_all, get_or-map, length-map}
 use Rattle.std.proofs.lemmas.List.Elements.{recursion_from_All, All-take, Contains-push_cases}
-use Rattle.lattice_theory.specs.Vectors.{Vector, conforms, norm1, add, opposite, is_bounded, first_unbounded}
+use Rattle.lattice_theory.specs.Vectors.{Vector, conforms, norm1, add, sub, opposite}
 use Rattle.lattice_theory.specs.BasisLimits.{IsNarrow}
 use Rattle.lattice_laws.proofs.Tests.{not_both}
-use Rattle.lattice_laws.proofs.Conformal.{conforms_turned, norm1-cons, norm_agree, take-add, opposite-opposite}
+use Rattle.lattice_laws.proofs.Conformal.{norm1-cons, norm_agree, take-add, opposite-opposite}
 use Rattle.lattice_laws.proofs.SlackBases.{IsReducible}
 use Rattle.lattice_laws.proofs.Completion.{counts_parts}
 use Rattle.pottier.specs.Vectors.{vectors}
@@ -30,25 +29,14 @@ norm_of_pair at p q h =
     ap (λ n. norm1 (take at p) + n) (sym (partner_norm at p q)) ∙ sym (norm_agree (take at p) (take at (partner at p q)) (counts_parts at p (partner at p q) h).0)
     ∙ ap norm1 (sym (take-add at p (partner at p q)))
 
--- the sum of narrow vectors has no large entry
-sum_bounded : (i : ℕ) (p q : Vector) → AllByRecursion (λ a. unsigned_abs a < 2 ^ 31) p → AllByRecursion (λ a. unsigned_abs a < 2 ^ 31) q →
-    position_from (λ a. not (is_bounded a)) i (add p q) ≡ None
-sum_bounded i [] q h k = refl
-sum_bounded i (a ∷ p) [] h k = refl
-sum_bounded i (a ∷ p) (b ∷ q) h k =
-    by (is_bounded (a +ℤ b)) (small a b h.0 k.0) (sum_bounded (i + 1) p q h.1 k.1)
+-- the difference of narrow vectors
+pub sub_turned : (p q : Vector) → sub p q ≡ add p (opposite q)
+sub_turned [] q = refl
+sub_turned (a ∷ p) [] = refl
+sub_turned (a ∷ p) (b ∷ q) = λ i. entry a b i ∷ sub_turned p q i
   where
-    small : (a b : ℤ) → unsigned_abs a < 2 ^ 31 → unsigned_abs b < 2 ^ 31 → is_bounded (a +ℤ b) ≡ true
-    small a b h k = let s : unsigned_abs (a +ℤ b) ≤ 2 ^ 62 = omega (arith, ints) in grind (arith, nat_tests)
-
-    by : (t : Bool) → t ≡ true → position_from (λ a. not (is_bounded a)) (i + 1) (add p q) ≡ None →
-        cond (not t) (Some i) (position_from (λ a. not (is_bounded a)) (i + 1) (add p q)) ≡ None
-    by true e r = r
-    by false e r = absurd (cc)
-
-pub no_large_sum : (p q : Vector) (at : ℕ) → IsNarrow p → IsNarrow q → first_unbounded (add p q) ≡ Some at → ⊥
-no_large_sum p q at h k e =
-    absurd (cc (sum_bounded 0 p q (recursion_from_All (λ a. unsigned_abs a < 2 ^ 31) p h) (recursion_from_All (λ a. unsigned_abs a < 2 ^ 31) q k)))
+    entry : (a b : ℤ) → (a -ℤ b) ≡ (a +ℤ neg_ℤ b)
+    entry a b = omega (arith, ints)
 
 -- ---- a member below z
 
@@ -63,13 +51,11 @@ both_false false t h = (refl, h)
 pub reducible_as : (vs : List Vector) (v z : Vector) → Contains vs v → conforms v z ≡ true → IsReducible vs z
 reducible_as vs v z c below = (v, inl c, below)
 
-pub reducible_turned : (vs : List Vector) (v z turned : Vector) → Contains vs v → turned ≡ opposite z → conforms v turned ≡ true → IsReducible vs z
-reducible_turned vs v z turned c e below =
-    (opposite v, inr (subst (Contains vs) (sym (opposite-opposite v)) c), sym (conforms_turned v z) ∙ ap (conforms v) (sym e) ∙ below)
+pub reducible_turned : (vs : List Vector) (v z : Vector) → Contains vs v → conforms (opposite v) z ≡ true → IsReducible vs z
+reducible_turned vs v z c below = (opposite v, inr (subst (Contains vs) (sym (opposite-opposite v)) c), below)
 
-pub not_below : (v z turned : Vector) → turned ≡ opposite z → conforms v z ≡ false → conforms v turned ≡ false → lies_below v z ≡ false
-not_below v z turned e plain other =
-    ap (λ t. t || conforms (opposite v) z) plain ∙ sym (conforms_turned v z) ∙ ap (conforms v) (sym e) ∙ other
+pub not_below : (v z : Vector) → conforms v z ≡ false → conforms (opposite v) z ≡ false → lies_below v z ≡ false
+not_below v z plain other = ap (λ t. t || conforms (opposite v) z) plain ∙ other
 
 pub none_reducible : (z : Vector) → IsReducible [] z → ⊥
 none_reducible z (e, inl (k, low, f), b) = absurd (omega arith)

@@ -32,17 +32,17 @@ use Rattle.pottier.proofs.StageLaws.{sum_small, grows_length, reducible_grows, p
 -- ---- the order of the entries
 
 -- an entry that is not greater has no smaller norm
-pub not_before : (x y : Pair) → is_lt (pair_order x y) ≡ false → x.norm.0 ≤ y.norm.0
+pub not_before : (x y : Pair) → is_lt (pair_order x y) ≡ false → x.norm ≤ y.norm
 not_before x y h = grind (arith, nat_tests)
 
-pub least_first : (x : Pair) (es : List Pair) → IsUpperBound pair_order x es → (e : Pair) → Contains es e → x.norm.0 ≤ e.norm.0
+pub least_first : (x : Pair) (es : List Pair) → IsUpperBound pair_order x es → (e : Pair) → Contains es e → x.norm ≤ e.norm
 least_first x es h e c =
     not_before x e (All-contains (λ y. is_lt (pair_order x y) ≡ false) es e (All-from_recursion (λ y. is_lt (pair_order x y) ≡ false) es h) c)
 
 -- ---- what is covered while the pairs wait
 
 -- the vectors of a norm below that of each entry are covered
-pub queue_covers : (m : Matrix) (at bound : ℕ) (vs : List Vector) (es : List Pair) → IsStage m at vs → All (IsPairOf at vs) es → ((e : Pair) → Contains es e → bound ≤ e.norm.0) →
+pub queue_covers : (m : Matrix) (at bound : ℕ) (vs : List Vector) (es : List Pair) → IsStage m at vs → All (IsPairOf at vs) es → ((e : Pair) → Contains es e → bound ≤ e.norm) →
     AllPairs (IsReducedOrWaits at vs es) vs → CoversBelow m at bound vs
 queue_covers m at bound vs es stage entries late awaits =
     pairs_cover m at vs stage bound (pairs_reduce at bound vs (cuts_some m at vs stage) (λ i j d before low. settled (get_or vs i d) (get_or vs j d) (awaits i j d before low)))
@@ -91,7 +91,7 @@ sum_fits at vs e z h pair is =
     )
 
 pub pair_is : (at : ℕ) (vs : List Vector) (i j norm : ℕ) (p q : Vector) → i < length vs → j < length vs → get_or vs i [] ≡ p → get_or vs j [] ≡ q → pair_counts at p q ≡ true →
-    norm ≡ norm_of_sum at p q → IsPairOf at vs (record { norm = record { 0 = norm }; first = i; second = j })
+    norm ≡ norm_of_sum at p q → IsPairOf at vs (record { norm = norm; first = i; second = j })
 pair_is at vs i j norm p q low lower e f count is = record {
   first = low;
   second = lower;
@@ -104,7 +104,7 @@ contains_at vs i low = (i, low, get_or_default vs i (get_or vs i []) [] low)
 
 -- it is due where all of a smaller norm are covered
 pub pair_due : (m : Matrix) (at : ℕ) (vs : List Vector) (e : Pair) (z : Vector) → IsStage m at vs → IsPairOf at vs e → z ≡ sum_of_pair at (first_of vs e) (second_of vs e) →
-    CoversBelow m at e.norm.0 vs → IsDue m at vs z
+    CoversBelow m at e.norm vs → IsDue m at vs z
 pair_due m at vs e z stage pair is covers =
     let p = first_of vs e in
     let q = second_of vs e in
@@ -247,9 +247,9 @@ queue_started at limit old es fits order up = record {
 
 -- before the sum of the first pair is added, the vectors of a smaller norm are covered
 pub queue_next : (m : Matrix) (at limit : ℕ) (old : List Vector) (es rest : List Pair) (now : List Vector) (x : Pair) → AreQueued at limit old es now → PopsGreatest pair_order es x rest → IsStage m at old →
-    CoversBelow m at x.norm.0 now
+    CoversBelow m at x.norm now
 queue_next m at limit old es rest now x h pops stage =
-    queue_covers m at x.norm.0 now es (h.stage m stage) h.entries (least_first x es (pops h.order).1) h.awaits
+    queue_covers m at x.norm now es (h.stage m stage) h.entries (least_first x es (pops h.order).1) h.awaits
 
 pub queue_first : (at limit : ℕ) (old : List Vector) (es rest : List Pair) (now : List Vector) (x : Pair) → AreQueued at limit old es now → IsPermutation es (x ∷ rest) → IsPairOf at now x
 queue_first at limit old es rest now x h same =
@@ -258,7 +258,7 @@ queue_first at limit old es rest now x h same =
 -- after it
 pub queue_more : (at limit : ℕ) (old : List Vector) (es rest next : List Pair) (now later : List Vector) (x : Pair) → AreQueued at limit old es now → IsPermutation es (x ∷ rest) →
     PopsGreatest pair_order es x rest → AreFitting (at + 1) limit later → Grows now later → IsReducible later (sum_of_pair at (first_of now x) (second_of now x)) →
-    ((m : Matrix) → IsStage m at now → CoversBelow m at x.norm.0 now → IsStage m at later) → IsPairedUp at later (length now) (length later) rest next → AreQueued at limit old next later
+    ((m : Matrix) → IsStage m at now → CoversBelow m at x.norm now → IsStage m at later) → IsPairedUp at later (length now) (length later) rest next → AreQueued at limit old next later
 queue_more at limit old es rest next now later x h same pops fits grows settled step up = record {
   fitting = fits;
   order = up.order (pops h.order).0;

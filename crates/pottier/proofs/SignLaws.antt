@@ -1,17 +1,20 @@
 -- Laws of the words that hold the signs of a vector: those of a vector that lies below another fit.
-use Rattle.std.proofs.Common.{◌≡◌, ℕ, ◌+◌, ◌%◌, ◌^◌, ◌<◌, ◌≤◌, min, ℤ, pos, negsuc, suc, Bool, true, false, ◌&&◌, List, [], ◌∷◌, ◌++◌, bit_and, bit_or, length, map, drop, get_or, refl, ap, arith, sym, ◌∙◌, subst, Vec, eq-eqb}
+use Rattle.std.proofs.Common.{◌≡◌, ℕ, zero, ◌+◌, ◌%◌, ◌^◌, ◌<◌, ◌≤◌, min, ℤ, pos, negsuc, neg_ℤ, suc, Bool, true, false, ◌&&◌, ◌||◌, List, [], ◌∷◌, ◌++◌, bit_and, bit_or, length, map, drop, get_or, refl, ap, arith, sym, ◌∙◌, subst, Vec, eq-eqb}
 use Rattle.std.specs.declared.alloc.Global.{Global}
 use Rattle.std.specs.Int.{bit_at}
 use Rattle.std.proofs.lemmas.Int.{ints}
 use Rattle.std.proofs.lemmas.Bool.Decides.{nat_tests}
 use Rattle.std.proofs.lemmas.List.{map_push, get_or-map, length-map}
 use Rattle.std.proofs.Math.Seq.{drop-cons}
+use Rattle.std.proofs.lemmas.Nat.{or_comm}
 use Rattle.std.proofs.lemmas.Nat.Bits.{bit_at_and, bit_at_or, bit_at-zero, same_from_bits}
-use Rattle.lattice_theory.specs.Vectors.{Vector, ◌⊑◌, conforms, is_between}
+use Rattle.lattice_theory.specs.Vectors.{Vector, ◌⊑◌, conforms, is_between, opposite}
 use Rattle.lattice_laws.proofs.Tests.{and_true, not_both}
+use Rattle.lattice_laws.proofs.Conformal.{conforms_turned}
 use Rattle.pottier.specs.declared.below.Signs.{Signs}
 use Rattle.pottier.specs.Vectors.{vectors}
-use Rattle.pottier.specs.Signs.{mark, marked, is_positive, is_negative, signs_of, is_within, fits}
+use Rattle.pottier.specs.Signs.{mark, marked, is_positive, is_negative, signs_of, is_within, fits, exchanged, has_places}
+use Rattle.pottier.proofs.PairLaws.{lies_below}
 
 -- each bit of the first word is in the second
 abbrev IsPartOf : ℕ → ℕ → Type 0
@@ -66,6 +69,51 @@ apart v z h = by (conforms v z) refl
     by : (b : Bool) → conforms v z ≡ b → b ≡ false
     by true e = absurd (not_both _ (below_fits v z e) h)
     by false e = refl
+
+-- the opposite has the signs exchanged
+module _ (test other : ℤ → Bool) (turns : (a : ℤ) → test (neg_ℤ a) ≡ other a) where
+  marked_turned : (word at : ℕ) (v : Vector) → marked test word at (opposite v) ≡ marked other word at v
+  marked_turned word at [] = refl
+  marked_turned word at (x ∷ v) =
+      ap (λ b. marked test (bit_or word (mark b at)) (at + 1) (opposite v)) (turns x) ∙ marked_turned (bit_or word (mark (other x) at)) (at + 1) v
+
+positive_turned : (a : ℤ) → is_positive (neg_ℤ a) ≡ is_negative a
+positive_turned (pos zero) = refl
+positive_turned (pos (suc a)) = grind (arith, nat_tests, ints)
+positive_turned (negsuc a) = grind (arith, nat_tests, ints)
+
+negative_turned : (a : ℤ) → is_negative (neg_ℤ a) ≡ is_positive a
+negative_turned (pos zero) = refl
+negative_turned (pos (suc a)) = grind (arith, nat_tests, ints)
+negative_turned (negsuc a) = grind (arith, nat_tests, ints)
+
+signs_turned : (v : Vector) → signs_of (opposite v) ≡ exchanged (signs_of v)
+signs_turned v = λ i. record { up = marked_turned is_positive is_negative positive_turned 0 0 v i; down = marked_turned is_negative is_positive negative_turned 0 0 v i }
+
+-- a vector whose signs do not fit those of the opposite does not lie below with the other sign
+pub turned_apart : (v z : Vector) → fits (signs_of v) (exchanged (signs_of z)) ≡ false → conforms (opposite v) z ≡ false
+turned_apart v z h = sym (conforms_turned v z) ∙ apart v (opposite z) (ap (fits (signs_of v)) (signs_turned z) ∙ h)
+
+-- all places of a vector that lies below are there
+below_places : (v z : Vector) → v ⊑ z → has_places (signs_of v) (signs_of z) ≡ true
+below_places v z low =
+    let none : IsPartOf 0 0 = λ i. omega arith in
+    within_part _ _ (or_part _ _ _ _ (marked_part is_positive positive_part v z 0 0 0 low none) (marked_part is_negative negative_part v z 0 0 0 low none))
+
+places_exchanged : (a b : Signs) → has_places (exchanged a) b ≡ has_places a b
+places_exchanged a b = ap (λ n. is_within n (bit_or b.up b.down)) (or_comm a.down a.up)
+
+-- a vector of which a place is missing lies below with neither sign
+pub places_apart : (v z : Vector) → has_places (signs_of v) (signs_of z) ≡ false → lies_below v z ≡ false
+places_apart v z h = by (conforms v z) (conforms (opposite v) z) (λ e. not_both _ (below_places v z e) h) (λ e. not_both _ (turned e) h)
+  where
+    turned : conforms (opposite v) z ≡ true → has_places (signs_of v) (signs_of z) ≡ true
+    turned e = sym (ap (λ s. has_places s (signs_of z)) (signs_turned v) ∙ places_exchanged (signs_of v) (signs_of z)) ∙ below_places (opposite v) z e
+
+    by : (s t : Bool) → (s ≡ true → ⊥) → (t ≡ true → ⊥) → (s || t) ≡ false
+    by true t p q = absurd (p refl)
+    by false true p q = absurd (q refl)
+    by false false p q = refl
 
 -- one entry more is marked
 pub marked_more : (test : ℤ → Bool) (word at : ℕ) (z : Vector) → at < length z →

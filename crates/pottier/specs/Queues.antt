@@ -2,7 +2,7 @@
 use Rattle.std.specs.Prelude.{◌≡◌, ℕ, ◌+◌, ◌-◌, ◌*◌, ◌≤◌, ◌<◌, ◌⊎◌, true, List, [], length, take, get_or, All, Contains}
 use Rattle.std.specs.List.{AllPairs}
 use Rattle.std.specs.BinaryHeap.{IsHeap}
-use Rattle.std.specs.Ordering.{nat_cmp, ordering_then}
+use Rattle.std.specs.Ordering.{nat_cmp, on, flip_args}
 use Rattle.std.specs.declared.cmp.Ordering.{Ordering}
 use Rattle.lattice_theory.specs.Vectors.{Vector}
 use Rattle.lattice_theory.specs.Matrices.{Matrix}
@@ -11,9 +11,9 @@ use Rattle.pottier.specs.declared.queue.Pair.{Pair}
 use Rattle.pottier.specs.Partners.{pair_counts, sum_of_pair, norm_of_sum}
 use Rattle.pottier.specs.Stages.{AreFitting, IsStage}
 
--- the order of the entries: the least norm is the greatest
+-- the order of the entries: the greater one has the lesser norm
 abbrev pub pair_order : Pair → Pair → Ordering
-pair_order x y = ordering_then (nat_cmp y.norm.0 x.norm.0) (ordering_then (nat_cmp x.first y.first) (nat_cmp x.second y.second))
+pair_order = flip_args (on (λ e. e.norm) nat_cmp)
 
 abbrev pub first_of : List Vector → Pair → Vector
 first_of vs e = get_or vs e.first []
@@ -26,7 +26,7 @@ pub record IsPairOf (at : ℕ) (vs : List Vector) (e : Pair) : Type 0 where
   pub first : e.first < length vs
   pub second : e.second < length vs
   pub count : pair_counts at (first_of vs e) (second_of vs e) ≡ true
-  pub norm : e.norm.0 ≡ norm_of_sum at (first_of vs e) (second_of vs e)
+  pub norm : e.norm ≡ norm_of_sum at (first_of vs e) (second_of vs e)
 
 -- the pair is among the entries
 abbrev pub Waits : List Vector → List Pair → Vector → Vector → Type 0

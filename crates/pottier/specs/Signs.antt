@@ -27,3 +27,11 @@ is_within a b = bit_and a b == a
 
 abbrev pub fits : Signs → Signs → Bool
 fits a b = is_within a.up b.up && is_within a.down b.down
+
+-- the signs of the opposite
+abbrev pub exchanged : Signs → Signs
+exchanged a = record { up = a.down; down = a.up }
+
+-- no place of an entry that is not 0 is missing in the second
+abbrev pub has_places : Signs → Signs → Bool
+has_places a b = is_within (bit_or a.up a.down) (bit_or b.up b.down)

@@ -2,9 +2,10 @@
 //!
 //! A vector that lies below another has its positive entries at places where that has positive ones, and so
 //! with the negative ones. Two words for each vector hold these places, folded modulo 64. They are asked
-//! first, and the entries only where they fit.
+//! first, both together and then each, and the entries only where they fit.
 
-ghost use Rattle.std.specs.Prelude.{◌≡◌, IfOk, length, map, All, MatchBool, ◌||◌};
+ghost use Rattle.std.specs.Prelude.{◌≡◌, IfOk, length, map, All, MatchBool, neg_ℤ};
+ghost use Rattle.lattice_theory.specs.Vectors.{is_between};
 ghost use Rattle.lattice_theory.specs.Vectors as vector;
 ghost use Rattle.lattice_laws.proofs.SlackBases.{IsReducible};
 ghost use Rattle.pottier.specs.Vectors.{vectors};
@@ -51,24 +52,44 @@ pub fn all_signs(alloc: Global, members: &[Vec<i64>]) -> Result<Vec<Signs>, Allo
     Ok(signs)
 }
 
-/// Whether a member, with either sign, is conformally below `z`, whose opposite is `turned`.
-pub fn is_reducible(members: &[Vec<i64>], signs: &[Signs], z: &[i64], turned: &[i64]) -> bool
-    requires opposites { turned.now ≡ vector.opposite z.now }
+/// Whether a member, with either sign, is conformally below `z`.
+pub fn is_reducible(members: &[Vec<i64>], signs: &[Signs], z: &[i64]) -> bool
     requires same { All (λ v. length v ≡ length z.now) (vectors members.now) }
     requires signs { signs.now ≡ map words.signs_of (vectors members.now) }
     ensures { MatchBool result (IsReducible (vectors members.now) z.now) (IsReducible (vectors members.now) z.now → ⊥) }
 {
     let plain = signs_of(z);
-    let opposite = signs_of(turned);
+    let turned = exchanged(plain);
     for i in 0..members.len() {
         let member = members[i].as_slice();
+        if !has_places(signs[i], plain) {
+            continue;
+        }
         if lies_below(member, signs[i], z, plain)
-            || lies_below(member, signs[i], turned, opposite)
+            || turned_lies_below(member, signs[i], z, turned)
         {
             return true;
         }
     }
     false
+}
+
+/// The signs of the opposite.
+fn exchanged(signs: Signs) -> Signs
+    ensures { result ≡ words.exchanged signs }
+{
+    Signs {
+        up: signs.down,
+        down: signs.up,
+    }
+}
+
+/// Whether all places, of either sign, are among those of the other vector.
+fn has_places(signs: Signs, others: Signs) -> bool
+    ensures { result ≡ words.has_places signs others }
+{
+    let places = signs.up | signs.down;
+    places & (others.up | others.down) == places
 }
 
 /// Whether the member, which has these signs, is conformally below `z`, which has those.
@@ -79,6 +100,36 @@ fn lies_below(member: &[i64], signs: Signs, z: &[i64], others: Signs) -> bool
     ensures { result ≡ vector.conforms member.now z.now }
 {
     fits(signs, others) && conforms(member, z)
+}
+
+/// Whether its opposite is below `z`, whose own opposite has those.
+fn turned_lies_below(member: &[i64], signs: Signs, z: &[i64], others: Signs) -> bool
+    requires same { length member.now ≡ length z.now }
+    requires signs { signs ≡ words.signs_of member.now }
+    requires others { others ≡ words.exchanged (words.signs_of z.now) }
+    ensures { result ≡ vector.conforms (vector.opposite member.now) z.now }
+{
+    fits(signs, others) && conforms_turned(member, z)
+}
+
+/// Whether the opposite of `e` is conformally below `z`.
+fn conforms_turned(e: &[i64], z: &[i64]) -> bool
+    requires { length e.now ≡ length z.now }
+    ensures { result ≡ vector.conforms (vector.opposite e.now) z.now }
+{
+    for (x, y) in e.iter().zip(z) {
+        if !lies_opposite(*x, *y) {
+            return false;
+        }
+    }
+    true
+}
+
+/// Whether `-x` lies between 0 and `y`.
+fn lies_opposite(x: i64, y: i64) -> bool
+    ensures { result ≡ is_between (neg_ℤ x) y }
+{
+    x == 0 || (x < 0) != (y < 0) && y != 0 && x.unsigned_abs() <= y.unsigned_abs()
 }
 
 /// Whether the places of each sign are among those of the other vector.

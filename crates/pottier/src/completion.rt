@@ -13,7 +13,7 @@ ghost use Rattle.lattice_laws.proofs.Completion.{CoversBelow};
 ghost use Rattle.pottier.specs.Vectors.{vectors};
 ghost use Rattle.pottier.specs.Partners.{sum_of_pair};
 ghost use Rattle.pottier.specs.Signs as words;
-ghost use Rattle.pottier.specs.Faults.{LimitOnly, IsBasisFault};
+ghost use Rattle.pottier.specs.Faults.{IsBasisFault};
 ghost use Rattle.pottier.specs.Stages.{AreMembers, AreFitting, Grows, IsStage, IsDue, IsCompleted};
 ghost use Rattle.pottier.specs.Queues.{IsPairOf, first_of, second_of};
 
@@ -22,7 +22,7 @@ use crate::below::{Signs, all_signs, is_reducible, signs_of};
 use crate::pairs::{is_narrow, opposite, pair_sum};
 use crate::queue::{Pair, pair_up};
 use int_vectors::leads_positive;
-use std::alloc::Global;
+use std::alloc::{AllocError, Global};
 use std::collections::BinaryHeap;
 
 /// Adds sums of pairs until each pair's sum has a member below it. The new entry is the one at `at`.
@@ -56,11 +56,10 @@ fn sum_of(
     members: &[Vec<i64>],
     pair: Pair,
     at: usize,
-) -> Result<Vec<i64>, BasisFault>
+) -> Result<Vec<i64>, AllocError>
     requires members { AreMembers (at + 1) (vectors members.now) }
     requires pair { IsPairOf at (vectors members.now) pair }
-    ensures sum { IfOk result (λ z. z.items ≡ sum_of_pair at (first_of (vectors members.now) pair) (second_of (vectors members.now) pair)) }
-    ensures refused { IfErr result (LimitOnly ⊥) }
+    ensures { IfOk result (λ z. z.items ≡ sum_of_pair at (first_of (vectors members.now) pair) (second_of (vectors members.now) pair)) }
 {
     pair_sum(alloc, &members[pair.first], &members[pair.second], at)
 }
@@ -84,11 +83,10 @@ fn add_sum(
     ensures stage { (m : matrices.Matrix) (at : ℕ) → IsStage m at (vectors members.old.items) → IsDue m at (vectors members.old.items) sum.items → OnOk result (IsStage m at (vectors members.new.items)) }
     ensures refused { (m : matrices.Matrix) (at : ℕ) → IsStage m at (vectors members.old.items) → IsDue m at (vectors members.old.items) sum.items → IfErr result (IsBasisFault m limit) }
 {
-    let turned = opposite(alloc, &sum)?;
-    if is_reducible(members, signs, &sum, &turned) {
+    if is_reducible(members, signs, &sum) {
         return Ok(());
     }
-    let member = leading(sum, turned);
+    let member = leading(alloc, sum)?;
     if members.len() == limit || !is_narrow(&member) {
         return Err(BasisFault::Limit);
     }
@@ -99,10 +97,14 @@ fn add_sum(
 }
 
 /// The one of a vector and its opposite whose first nonzero entry is positive.
-fn leading(z: Vec<i64>, turned: Vec<i64>) -> Vec<i64>
-    requires { turned.items ≡ vector.opposite z.items }
-    ensures either { (result.items ≡ z.items) ⊎ (result.items ≡ vector.opposite z.items) }
-    ensures leads { vector.is_zero z.items ≡ false → vector.leads_positive result.items ≡ true }
+fn leading(alloc: Global, z: Vec<i64>) -> Result<Vec<i64>, AllocError>
+    requires { All (λ x. unsigned_abs x < 2 ^ 62) z.items }
+    ensures either { IfOk result (λ w. (w.items ≡ z.items) ⊎ (w.items ≡ vector.opposite z.items)) }
+    ensures leads { vector.is_zero z.items ≡ false → IfOk result (λ w. vector.leads_positive w.items ≡ true) }
 {
-    if leads_positive(&z) { z } else { turned }
+    if leads_positive(&z) {
+        Ok(z)
+    } else {
+        opposite(alloc, &z)
+    }
 }

@@ -3,17 +3,15 @@
 //! The second vector of a pair is taken with the sign with which its new entry clashes with that of the first.
 //! With the other sign the two new entries agree, so a pair counts with one sign at most.
 
-ghost use Rattle.std.specs.Prelude.{◌≡◌, ◌≤◌, ◌<◌, ◌^◌, ◌+◌, IfOk, IfErr, length, All, MatchBool, unsigned_abs, true};
+ghost use Rattle.std.specs.Prelude.{◌≡◌, ◌≤◌, ◌<◌, ◌^◌, ◌+◌, ◌+ℤ◌, ◌-ℤ◌, IfOk, length, All, MatchBool, unsigned_abs, true};
 ghost use Rattle.lattice_theory.specs.Vectors as vector;
 ghost use Rattle.lattice_theory.specs.BasisLimits.{IsNarrow};
 ghost use Rattle.lattice_laws.proofs.Signs as signs;
 ghost use Rattle.lattice_laws.proofs.Conformal as conformal;
 ghost use Rattle.pottier.specs.Partners as partners;
 ghost use Rattle.pottier.specs.Partners.{pair_counts, sum_of_pair, norm_of_sum};
-ghost use Rattle.pottier.specs.Faults.{LimitOnly};
 
-use crate::BasisFault;
-use int_vectors::{VecFault, add, norm1};
+use int_vectors::norm1;
 use std::alloc::{AllocError, Global};
 
 /// Whether the pair counts: its vectors agree before the last entry, and clash there.
@@ -82,35 +80,64 @@ pub fn pair_norm(p: &[i64], q: &[i64], at: usize) -> u64
 }
 
 /// The sum of a pair.
-pub fn pair_sum(alloc: Global, p: &[i64], q: &[i64], at: usize) -> Result<Vec<i64>, BasisFault>
+pub fn pair_sum(alloc: Global, p: &[i64], q: &[i64], at: usize) -> Result<Vec<i64>, AllocError>
     requires first { length p.now ≡ at + 1 }
     requires second { length q.now ≡ at + 1 }
     requires narrow { IsNarrow p.now }
     requires narrower { IsNarrow q.now }
-    ensures sum { IfOk result (λ z. z.items ≡ sum_of_pair at p.now q.now) }
-    ensures refused { IfErr result (LimitOnly ⊥) }
+    ensures { IfOk result (λ z. z.items ≡ sum_of_pair at p.now q.now) }
 {
     if agrees(p[at], q[at]) {
-        let turned = opposite(alloc, q)?;
-        sum(alloc, p, &turned)
+        difference(alloc, p, q)
     } else {
         sum(alloc, p, q)
     }
 }
 
 /// The sum of two narrow vectors.
-fn sum(alloc: Global, p: &[i64], q: &[i64]) -> Result<Vec<i64>, BasisFault>
+fn sum(alloc: Global, p: &[i64], q: &[i64]) -> Result<Vec<i64>, AllocError>
     requires same { length p.now ≡ length q.now }
     requires narrow { IsNarrow p.now }
     requires narrower { IsNarrow q.now }
-    ensures sum { IfOk result (λ z. z.items ≡ vector.add p.now q.now) }
-    ensures refused { IfErr result (LimitOnly ⊥) }
+    ensures { IfOk result (λ z. z.items ≡ vector.add p.now q.now) }
 {
-    match add(alloc, p, q) {
-        Ok(sum) => Ok(sum),
-        Err(VecFault::TooLarge { .. }) => Err(BasisFault::Limit),
-        Err(VecFault::Memory) => Err(BasisFault::Memory),
+    let mut made = Vec::with_capacity(alloc, p.len())?;
+    for (x, y) in p.iter().zip(q) {
+        made.push(entry_sum(*x, *y))?;
     }
+    Ok(made)
+}
+
+/// The difference of two narrow vectors.
+fn difference(alloc: Global, p: &[i64], q: &[i64]) -> Result<Vec<i64>, AllocError>
+    requires same { length p.now ≡ length q.now }
+    requires narrow { IsNarrow p.now }
+    requires narrower { IsNarrow q.now }
+    ensures { IfOk result (λ z. z.items ≡ vector.sub p.now q.now) }
+{
+    let mut made = Vec::with_capacity(alloc, p.len())?;
+    for (x, y) in p.iter().zip(q) {
+        made.push(entry_difference(*x, *y))?;
+    }
+    Ok(made)
+}
+
+/// The sum of two narrow entries.
+fn entry_sum(x: i64, y: i64) -> i64
+    requires first { unsigned_abs x < 2 ^ 31 }
+    requires second { unsigned_abs y < 2 ^ 31 }
+    ensures { result ≡ x +ℤ y }
+{
+    x + y
+}
+
+/// The difference of two narrow entries.
+fn entry_difference(x: i64, y: i64) -> i64
+    requires first { unsigned_abs x < 2 ^ 31 }
+    requires second { unsigned_abs y < 2 ^ 31 }
+    ensures { result ≡ x -ℤ y }
+{
+    x - y
 }
 
 /// The vector with all signs turned.

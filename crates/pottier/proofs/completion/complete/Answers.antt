@@ -35,25 +35,25 @@ sum_of-requires-clause-pair c =
 
 pub add_sum-requires-clause-fitting : goal.add_sum-requires-clause-fitting
 add_sum-requires-clause-fitting c =
-    let is = c.in_ok-sum.ensures.sum ∙ ap (λ ms. sum_of_pair c.args.at (first_of (vectors ms) c.in-Some.pair) (second_of (vectors ms) c.in-Some.pair)) c.deref-in-Some.ensures.value in
+    let is = c.in_ok-sum.ensures ∙ ap (λ ms. sum_of_pair c.args.at (first_of (vectors ms) c.in-Some.pair) (second_of (vectors ms) c.in-Some.pair)) c.deref-in-Some.ensures.value in
     subst (λ n. AreFitting n c.args.limit (vectors c.loop-pair.members.items)) (sym (first_fits c.args.at c.args.limit (vectors c.args.members.now.items) (heap_items c.loop-pair.pairs) (heap_items c.pop.new.self) (vectors c.loop-pair.members.items) c.in-Some.pair c.in_ok-sum.sum.items c.loop-pair.invariant.queued c.in-Some.ensures.permutation is).0) c.loop-pair.invariant.queued.fitting
 
 pub add_sum-requires-clause-small : goal.add_sum-requires-clause-small
 add_sum-requires-clause-small c =
-    let is = c.in_ok-sum.ensures.sum ∙ ap (λ ms. sum_of_pair c.args.at (first_of (vectors ms) c.in-Some.pair) (second_of (vectors ms) c.in-Some.pair)) c.deref-in-Some.ensures.value in
+    let is = c.in_ok-sum.ensures ∙ ap (λ ms. sum_of_pair c.args.at (first_of (vectors ms) c.in-Some.pair) (second_of (vectors ms) c.in-Some.pair)) c.deref-in-Some.ensures.value in
     (first_fits c.args.at c.args.limit (vectors c.args.members.now.items) (heap_items c.loop-pair.pairs) (heap_items c.pop.new.self) (vectors c.loop-pair.members.items) c.in-Some.pair c.in_ok-sum.sum.items c.loop-pair.invariant.queued c.in-Some.ensures.permutation is).1
 
 pub returns-in_err-add_sum-clause-refused : goal.returns-in_err-add_sum-clause-refused
 returns-in_err-add_sum-clause-refused c =
     λ m stage.
-    let is = c.in_ok-sum.ensures.sum ∙ ap (λ ms. sum_of_pair c.args.at (first_of (vectors ms) c.in-Some.pair) (second_of (vectors ms) c.in-Some.pair)) c.deref-in-Some.ensures.value in
+    let is = c.in_ok-sum.ensures ∙ ap (λ ms. sum_of_pair c.args.at (first_of (vectors ms) c.in-Some.pair) (second_of (vectors ms) c.in-Some.pair)) c.deref-in-Some.ensures.value in
     let due = first_due m c.args.at c.args.limit (vectors c.args.members.now.items) (heap_items c.loop-pair.pairs) (heap_items c.pop.new.self) (vectors c.loop-pair.members.items) c.in-Some.pair c.in_ok-sum.sum.items c.loop-pair.invariant.queued c.in-Some.ensures.permutation c.in-Some.ensures.heap_order is stage in
     let e = err_from_is_err_and c.from_residual-in_err-add_sum.result c.from_residual-in_err-add_sum.ensures.1 in
     rw (e.1, e.2) (c.in_err-add_sum.ensures.refused m c.args.at (c.loop-pair.invariant.queued.stage m stage) due)
 
 pub pair_up-requires-in-Some-clause-members : goal.pair_up-requires-in-Some-clause-members
 pair_up-requires-in-Some-clause-members c =
-    let is = c.in_ok-sum.ensures.sum ∙ ap (λ ms. sum_of_pair c.args.at (first_of (vectors ms) c.in-Some.pair) (second_of (vectors ms) c.in-Some.pair)) c.deref-in-Some.ensures.value in
+    let is = c.in_ok-sum.ensures ∙ ap (λ ms. sum_of_pair c.args.at (first_of (vectors ms) c.in-Some.pair) (second_of (vectors ms) c.in-Some.pair)) c.deref-in-Some.ensures.value in
     let fits = subst (λ n. AreFitting n c.args.limit (vectors c.add_sum.new.members.items)) (first_fits c.args.at c.args.limit (vectors c.args.members.now.items) (heap_items c.loop-pair.pairs) (heap_items c.pop.new.self) (vectors c.loop-pair.members.items) c.in-Some.pair c.in_ok-sum.sum.items c.loop-pair.invariant.queued c.in-Some.ensures.permutation is).0 c.in_ok-add_sum.ensures.fitting in
     subst (AreMembers (c.args.at + 1)) (sym (ap vectors c.deref-in-Some-2.ensures.value)) fits.members
 
@@ -64,7 +64,7 @@ loop-pair-smaller c =
     let es = heap_items c.loop-pair.pairs in
     let rest = heap_items c.pop.new.self in
     let next = heap_items c.pair_up-in-Some.new.pairs in
-    let is = c.in_ok-sum.ensures.sum ∙ ap (λ ms. sum_of_pair c.args.at (first_of (vectors ms) c.in-Some.pair) (second_of (vectors ms) c.in-Some.pair)) c.deref-in-Some.ensures.value in
+    let is = c.in_ok-sum.ensures ∙ ap (λ ms. sum_of_pair c.args.at (first_of (vectors ms) c.in-Some.pair) (second_of (vectors ms) c.in-Some.pair)) c.deref-in-Some.ensures.value in
     let fits = subst (λ n. AreFitting n c.args.limit later) (first_fits c.args.at c.args.limit (vectors c.args.members.now.items) (heap_items c.loop-pair.pairs) (heap_items c.pop.new.self) (vectors c.loop-pair.members.items) c.in-Some.pair c.in_ok-sum.sum.items c.loop-pair.invariant.queued c.in-Some.ensures.permutation is).0 c.in_ok-add_sum.ensures.fitting in
     let count : c.len-paired.result ≡ length now = omega (arith, c.len-paired.ensures, length-map c.loop-pair.members.items (λ v. v.items)) in
     let popped : length es ≡ length rest + 1 = omega (arith, length_permutation es (c.in-Some.pair ∷ rest) c.in-Some.ensures.permutation) in
@@ -79,11 +79,11 @@ loop-pair-preserved c =
     let es = heap_items c.loop-pair.pairs in
     let rest = heap_items c.pop.new.self in
     let next = heap_items c.pair_up-in-Some.new.pairs in
-    let is = c.in_ok-sum.ensures.sum ∙ ap (λ ms. sum_of_pair c.args.at (first_of (vectors ms) c.in-Some.pair) (second_of (vectors ms) c.in-Some.pair)) c.deref-in-Some.ensures.value in
+    let is = c.in_ok-sum.ensures ∙ ap (λ ms. sum_of_pair c.args.at (first_of (vectors ms) c.in-Some.pair) (second_of (vectors ms) c.in-Some.pair)) c.deref-in-Some.ensures.value in
     let fits = subst (λ n. AreFitting n c.args.limit later) (first_fits c.args.at c.args.limit (vectors c.args.members.now.items) (heap_items c.loop-pair.pairs) (heap_items c.pop.new.self) (vectors c.loop-pair.members.items) c.in-Some.pair c.in_ok-sum.sum.items c.loop-pair.invariant.queued c.in-Some.ensures.permutation is).0 c.in_ok-add_sum.ensures.fitting in
     let count : c.len-paired.result ≡ length now = omega (arith, c.len-paired.ensures, length-map c.loop-pair.members.items (λ v. v.items)) in
     let up = subst (λ ms. IsPairedUp c.args.at (vectors ms) c.len-paired.result (length (vectors ms)) rest next) c.deref-in-Some-2.ensures.value c.in_ok-pair_up-2.ensures in
-    let step = λ (m : Matrix) (stage : IsStage m c.args.at now) (covers : CoversBelow m c.args.at c.in-Some.pair.norm.0 now).
+    let step = λ (m : Matrix) (stage : IsStage m c.args.at now) (covers : CoversBelow m c.args.at c.in-Some.pair.norm now).
     c.in_ok-add_sum.ensures.stage m c.args.at stage
     (pair_due m c.args.at now c.in-Some.pair c.in_ok-sum.sum.items stage (queue_first c.args.at c.args.limit (vectors c.args.members.now.items) (heap_items c.loop-pair.pairs) (heap_items c.pop.new.self) (vectors c.loop-pair.members.items) c.in-Some.pair c.loop-pair.invariant.queued c.in-Some.ensures.permutation) is covers) in
     record {
