@@ -1,5 +1,5 @@
 mod KnownValues
-mod DrawLaws
+pub mod DrawLaws
 mod TransportLaws
 mod PlantedLaws
 mod AcceptedLaws

@@ -1,0 +1,4 @@
+pub mod ReducedLists
+pub mod SupplierBases
+pub mod SupplierSums
+pub mod NoLimit
