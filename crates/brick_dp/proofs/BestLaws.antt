@@ -1,33 +1,29 @@
 -- The best step of one length, or none, and the answer under a bound.
-use Rattle.std.proofs.Common.{◌≡◌, ℕ, ◌+◌, ◌-◌, ℤ, pos, ◌-ℤ◌, ◌≤ℤ◌, Bool, true, false, List, [], ◌∷◌, length, drop, refl, ap, arith, sym, ◌∙◌, Some, None, Option, slice_get, subst, All, IsTrue, unsigned_abs, inl, inr, int_lt, cond}
+use Rattle.std.proofs.Common.{◌≡◌, ℕ, ◌+◌, ◌-◌, ℤ, pos, ◌-ℤ◌, ◌≤ℤ◌, ◌<ℤ◌, Bool, true, false, List, [], ◌∷◌, length, drop, refl, ap, arith, sym, ◌∙◌, Some, None, Option, slice_get, subst, All, IsTrue, unsigned_abs, inl, inr, int_lt, cond}
 use Rattle.std.proofs.lemmas.Int.{ints}
 use Rattle.std.specs.Ordering.{int_cmp, nat_cmp, ordering_then, is_le}
 use Rattle.std.specs.Cmp.Lexicographic.{slice_cmp}
 use Rattle.std.specs.declared.cmp.Ordering.{Ordering}
 use Rattle.std.specs.declared.cmp.Ordering.TheVariants.{Less, Equal, Greater}
-use Rattle.lattice_theory.specs.Vectors.{zeros, lex_cmp}
+use Rattle.lattice_theory.specs.Vectors.{zeros, lex_cmp, is_rising}
 use Rattle.lattice_theory.specs.SignedSums.{Sum, vectors}
 use Rattle.run_theory.specs.declared.Key.{Key}
 use Rattle.run_theory.specs.Keys.{beaten}
-use Rattle.fold_theory.specs.Programs.{IsProgram, AreWithin, Bricks, link_rests, phase_cost}
+use Rattle.fold_theory.specs.Programs.{IsProgram, AreWithin, IsLength, Bricks, link_rests, phase_cost}
 use Rattle.run_theory.specs.Steps.{moved}
 use Rattle.run_theory.specs.Outcomes.{Step}
 use Rattle.walk_laws.proofs.BestWalks.{IsLeastWalk}
-use Rattle.walk_laws.proofs.BestSteps.{none_augments}
-use Rattle.walk_laws.proofs.Candidates.{widths_within}
 use Rattle.brick_sums.specs.Places.{width}
 use Rattle.run_theory.specs.Folds.{FoldValue}
-use Rattle.run_theory.specs.Bests.{IsFound, NoneOfLength, IsBeaten}
-use Rattle.brick_dp.specs.Answers.{IsBestStep}
+use Rattle.run_theory.specs.Bests.{IsFound, IsBeaten}
+use Rattle.sieve_laws.proofs.Existence.{BestOrNone, best_or_none}
+use Rattle.brick_dp.specs.Needs.{NoneGains, IsStepUnder}
+use Rattle.brick_dp.proofs.NeedLaws.{best_found}
 use Rattle.sieve_laws.specs.Sieve.{Layer}
 use Rattle.brick_dp.specs.Tables.{AreLayers}
 use Rattle.brick_dp.proofs.ChangeLaws.{at_same}
 
 -- ---- answers
-
-pub found_is : (f : FoldValue) (x : Bricks) (k : ℕ) (o : Option Step) (s : Step) → IsBestStep f x k o → o ≡ Some s → IsFound f x k s
-found_is f x k None s best e = absurd (cc)
-found_is f x k (Some t) s best e = let same : t ≡ s = at_same (Some t) t s refl e in subst (IsFound f x k) same best
 
 not_after : (a b : ℤ) (u : Ordering) → int_lt b a ≡ true → int_lt a b ≡ false → IsTrue (is_le (ordering_then (int_cmp a b) u)) → ⊥
 not_after a b u e g h =
@@ -68,24 +64,48 @@ pub zero_at : (fs : List Sum) (t at : ℕ) → All (λ w. length w ≡ t) (vecto
 zero_at [] t at widths there = absurd (cc)
 zero_at (s ∷ fs) t at widths there = let e : length s.vector ≡ t = widths 0 s.vector (omega arith) in there ∙ ap (λ n. Some (zeros n)) e
 
--- no step gains where walks from zero say so
-pub none_gains : (f : FoldValue) (x : Bricks) (k : ℕ) (layers : List Layer) → AreLayers f x k (length f.program.bricks + 1) layers → IsProgram f.program →
-    AreWithin f.program.bricks x → f.program.brick.cols ≡ f.program.link.cols → All (λ w. length w ≡ f.program.brick.cols) (vectors f.sums) →
+-- the first cell is the least cost of a walk from zero
+pub first_walk : (f : FoldValue) (x : Bricks) (k : ℕ) (layers : List Layer) → AreLayers f x k (length f.program.bricks + 1) layers →
     (at : ℕ) (layer : Layer) (first : Option ℤ) → slice_get (vectors f.sums) at ≡ Some (zeros f.program.brick.cols) →
-    slice_get layers (length f.program.bricks) ≡ Some layer → slice_get layer at ≡ Some first → ((cost : ℤ) → first ≡ Some cost → pos 0 ≤ℤ cost) → NoneOfLength f x k
-none_gains f x k layers are program within cols widths at layer first start there cell high =
-    none_augments f.program f.phase (vectors f.sums) k x wx widths first walk high
+    slice_get layers (length f.program.bricks) ≡ Some layer → slice_get layer at ≡ Some first →
+    IsLeastWalk f.program f.phase (vectors f.sums) k (link_rests f.program x) f.program.bricks x (zeros f.program.brick.cols) first
+first_walk f x k layers are at layer first start there cell =
+    let n = length f.program.bricks in
+    let none : n - n ≡ 0 = omega arith in
+    subst (λ i. IsLeastWalk f.program f.phase (vectors f.sums) k (link_rests f.program x) (drop i f.program.bricks) (drop i x) (zeros f.program.brick.cols) first) none
+    ((are.each n layer there).least.cells at (zeros f.program.brick.cols) first start cell)
+
+module _ (f : FoldValue) (x : Bricks) (k : ℕ) (need : ℤ) where
+  -- no walk from zero
+  pub none_walks : IsLeastWalk f.program f.phase (vectors f.sums) k (link_rests f.program x) f.program.bricks x (zeros f.program.brick.cols) None →
+      NoneGains f x k need
+  none_walks none h c wc = absurd (none h c wc)
+
+  -- none that lowers the cost by so much
+  pub none_lowers : (total : ℤ) →
+      IsLeastWalk f.program f.phase (vectors f.sums) k (link_rests f.program x) f.program.bricks x (zeros f.program.brick.cols) (Some total) →
+      (pos 0 -ℤ need) <ℤ total → NoneGains f x k need
+  none_lowers total least high h c wc = let low = least.1 h c wc in omega (arith, ints, low, high)
+
+-- the best step gains what the least walk lowers the cost by
+pub found_gain : (f : FoldValue) (x : Bricks) (k : ℕ) → IsProgram f.program → AreWithin f.program.bricks x → f.program.brick.cols ≡ f.program.link.cols →
+    All (λ w. length w ≡ f.program.brick.cols) (vectors f.sums) → is_rising (vectors f.sums) ≡ true → IsLength f.program k → (s : Step) (total : ℤ) →
+    total <ℤ pos 0 → IsFound f x k s →
+    IsLeastWalk f.program f.phase (vectors f.sums) k (link_rests f.program x) f.program.bricks x (zeros f.program.brick.cols) (Some total) →
+    s.gain ≡ unsigned_abs total
+found_gain f x k program within cols widths rising fits s total low found ((g, walk), least) =
+    by (best_or_none f.program f.phase (vectors f.sums) k (link_rests f.program x) rising f.program.bricks x (zeros f.program.brick.cols))
   where
-    n : ℕ
-    n = length f.program.bricks
+    by : BestOrNone f.program f.phase (vectors f.sums) k (link_rests f.program x) f.program.bricks x (zeros f.program.brick.cols) → s.gain ≡ unsigned_abs total
+    by (inr none) = absurd (none g total walk)
+    by (inl (h, c, best)) =
+        let up = best.least g total walk in
+        let down = least h c best.walk in
+        let same : c ≡ total = omega (arith, ints, up, down) in
+        same_gain f x k s _ found (best_found f x k program within cols widths h c fits (omega (arith, ints, up, low)) best) ∙ ap unsigned_abs same
 
-    wx : All (λ v. length v ≡ f.program.brick.cols) x
-    wx = subst (λ t. All (λ v. length v ≡ t) x) (sym cols) (widths_within f.program.link.cols (length f.program.brick.rows) f.program.bricks x program.each_brick within)
+pub under_some : (f : FoldValue) (x : Bricks) (k : ℕ) (need : ℤ) (o : Option Step) (s : Step) → IsStepUnder f x k need o → o ≡ Some s → IsStepUnder f x k need (Some s)
+under_some f x k need o s under e = subst (IsStepUnder f x k need) e under
 
-    none : n - n ≡ 0
-    none = omega arith
-
-    walk : IsLeastWalk f.program f.phase (vectors f.sums) k (link_rests f.program x) f.program.bricks x (zeros f.program.brick.cols) first
-    walk =
-        subst (λ i. IsLeastWalk f.program f.phase (vectors f.sums) k (link_rests f.program x) (drop i f.program.bricks) (drop i x) (zeros f.program.brick.cols) first) none
-        ((are.each n layer there).least.cells at (zeros f.program.brick.cols) first start cell)
+pub under_none : (f : FoldValue) (x : Bricks) (k : ℕ) (need : ℤ) (o : Option Step) → IsStepUnder f x k need o → o ≡ None → NoneGains f x k need
+under_none f x k need o under e = subst (IsStepUnder f x k need) e under

@@ -6,5 +6,7 @@ pub mod EndLaws
 pub mod FillLaws
 pub mod PotentialLaws
 pub mod ReadLaws
+pub mod NeedLaws
+pub mod FloorLaws
 pub mod BestLaws
 mod KnownValues

@@ -3,3 +3,4 @@ pub mod Menus
 pub mod Ends
 pub mod Tables
 pub mod Answers
+pub mod Needs

@@ -1,29 +1,35 @@
 //! The best step of one length.
 
-ghost use Rattle.std.specs.Prelude.{◌≡◌, ◌+◌, ◌*◌, ◌≤◌, length, IfOk};
-ghost use Rattle.fold_theory.specs.Programs.{IsLength};
+ghost use Rattle.std.specs.Prelude.{◌≡◌, ◌+◌, ◌*◌, ◌^◌, ◌≤◌, ◌≤ℤ◌, pos, length, IsTrue, IfOk};
+ghost use Rattle.lattice_theory.specs.Vectors.{is_rising};
+ghost use Rattle.lattice_theory.specs.SignedSums.{vectors};
+ghost use Rattle.fold_theory.specs.Programs.{IsLength, AreWithin};
 ghost use Rattle.run_theory.specs.Starts.{IsStart};
 ghost use Rattle.run_theory.specs.Folds.{HasBrickSums};
 ghost use Rattle.brick_dp.specs.Menus.{AreMenus};
-ghost use Rattle.brick_dp.specs.Answers.{IsBestStep, IsStepAnswer};
+ghost use Rattle.brick_dp.specs.Needs.{IsStepUnder};
+ghost use Rattle.brick_dp.specs.Tables.{AreLayers};
+ghost use Rattle.brick_dp.specs.Answers.{IsStepAnswer};
 
 use crate::answers::{Step, StepAnswer};
-use crate::bounds::Bound;
+use crate::bounds::{Bound, needed};
 use crate::filling::layers;
+use crate::floors::may_gain;
 use crate::folds::Fold;
 use crate::menus::Menus;
 use crate::reading::step_from;
 use fold_program::Point;
-use layer_sieve::{Moves, Targets};
+use layer_sieve::{Layers, Moves, Targets};
 use std::alloc::{AllocError, Global};
-use step_lengths::{Key, beaten, count};
+use step_lengths::count;
 
 /// The best step of `2^k` times a move, where it gains anything and the bound does not beat it.
 ///
 /// The fold's sums are the brick sums of its program and phase; the point is within the bounds and meets its brick
-/// rows, in phase `Closed` the linking rows too; and `2^k` is a step length. The bound is asked once. `moves` rises
-/// by one for each sum to which a move leads that could lower its cost, so by at most as often as there are bricks
-/// times sums times sums.
+/// rows, in phase `Closed` the linking rows too; and `2^k` is a step length. The bound is asked as the call begins,
+/// and once more before the step is read off. `moves` rises by one for each sum to which a move leads that could lower
+/// its cost, so by at most as often as there are bricks times sums times sums; where the moves of all bricks, each
+/// taken by itself, cannot gain what the bound asks for, no move is tried.
 ///
 /// `AllocError` comes only where memory runs out.
 pub fn best_step<B: Bound>(
@@ -71,47 +77,49 @@ pub fn best_step_with<B: Bound>(
     ensures rising { moves.old ≤ moves.new }
     ensures counted { moves.new ≤ moves.old + length fold.now.program.bricks * (length fold.now.sums * length fold.now.sums) }
 {
-    let best = best_of_length(alloc, fold, targets, menus, point, k, moves)?;
-    let bound = bound.now();
-    let Some(step) = best else {
+    let lengths = count(fold.program().widest());
+    prove!(k < lengths);
+    prove!(fold.program().n() > 0);
+    prove!(fold.sums().zero() < fold.sums().len());
+    let need_before = needed(bound.now(), k);
+    if !may_gain(alloc, fold, menus, point, k, need_before)? {
         return Ok(StepAnswer::Beaten);
-    };
-    let key = Key { gain: step.gain, k };
-    if beaten(key, bound) {
-        Ok(StepAnswer::Beaten)
-    } else {
-        Ok(StepAnswer::Found(step))
+    }
+    let layers = layers(alloc, fold, targets, menus, point, k, moves)?;
+    let need = needed(bound.now(), k);
+    match step_under(alloc, fold, targets, menus, point, k, &layers, need)? {
+        Some(step) => Ok(StepAnswer::Found(step)),
+        None => Ok(StepAnswer::Beaten),
     }
 }
 
-/// The best step of `2^k` times a move, where one gains anything.
-fn best_of_length(
+/// The best step of `2^k` times a move, where it gains so much. The last layer stands first.
+fn step_under(
     alloc: Global,
     fold: &Fold,
     targets: &Targets,
     menus: &Menus,
     point: &Point,
     k: u32,
-    moves: &mut Moves,
+    layers: &Layers,
+    need: i128,
 ) -> Result<Option<Step>, AllocError>
-    requires sums { HasBrickSums fold.now }
+    requires rising { IsTrue (is_rising (vectors fold.now.sums)) }
     requires targets { targets.now ≡ fold.now.sums }
     requires menus { AreMenus fold.now point.now k menus.now }
-    requires start { IsStart fold.now.program fold.now.phase point.now }
+    requires within { AreWithin fold.now.program.bricks point.now }
     requires length { IsLength fold.now.program k }
-    ensures best { IfOk result (IsBestStep fold.now point.now k) }
-    ensures rising { moves.old ≤ moves.new }
-    ensures counted { moves.new ≤ moves.old + length fold.now.program.bricks * (length fold.now.sums * length fold.now.sums) }
+    requires layers { AreLayers fold.now point.now k (length fold.now.program.bricks + 1) layers.now }
+    requires least { pos 1 ≤ℤ need }
+    requires most { need ≤ℤ pos (2 ^ 124) }
+    ensures { IfOk result (IsStepUnder fold.now point.now k need) }
 {
-    let lengths = count(fold.program().widest());
-    prove!(k < lengths);
     let zero = fold.sums().zero();
-    let layers = layers(alloc, fold, targets, menus, point, k, moves)?;
     let Some(total) = layers.get(fold.program().n())[zero as usize] else {
         return Ok(None);
     };
-    if total >= 0 {
+    if total > -need {
         return Ok(None);
     }
-    Ok(Some(step_from(alloc, fold, targets, menus, point, k, &layers, total)?))
+    Ok(Some(step_from(alloc, fold, targets, menus, point, k, layers, total)?))
 }

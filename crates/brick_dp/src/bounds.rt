@@ -3,6 +3,7 @@
 ghost use Rattle.std.specs.Prelude.{◌≡◌, Option, None};
 ghost use Rattle.run_theory.specs.declared.Key.{Key};
 ghost use Rattle.run_theory.specs.Keys.{IsNoWorse};
+ghost use Rattle.brick_dp.specs.Needs.{IsNeeded};
 
 use step_lengths::Key;
 
@@ -44,5 +45,20 @@ impl Bound for NoBound {
 
     fn now(&mut self) -> Option<Key> {
         None
+    }
+}
+
+/// More than any step gains.
+const MOST: u128 = 1 << 124;
+
+/// The least gain above 0 that the bound does not beat, at most `2^124`.
+pub(crate) fn needed(bound: Option<Key>, k: u32) -> i128
+    ensures { IsNeeded k bound result }
+{
+    match bound {
+        Some(key) if key.gain >= MOST => MOST as i128,
+        Some(key) if key.k < k => key.gain as i128 + 1,
+        Some(key) if key.gain > 0 => key.gain as i128,
+        _ => 1,
     }
 }

@@ -13,6 +13,7 @@ mod bounds;
 mod changes;
 mod ends;
 mod filling;
+mod floors;
 mod folds;
 mod least_costs;
 mod menus;

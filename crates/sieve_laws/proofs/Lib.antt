@@ -2,4 +2,5 @@ pub mod Cells
 pub mod Lowering
 pub mod Tops
 pub mod Rows
+pub mod Existence
 mod KnownValues

@@ -1,0 +1,277 @@
+-- By how much the moves of all bricks lower the cost at most, each brick taken by itself.
+use Rattle.std.proofs.Common.{◌≡◌, ℕ, zero, suc, ◌+◌, ◌*◌, ◌^◌, ◌<◌, ◌≤◌, ℤ, pos, ◌+ℤ◌, ◌-ℤ◌, ◌≤ℤ◌, ◌<ℤ◌, Bool, true, false, cond, int_lt, List, [], ◌∷◌}
+use Rattle.std.proofs.Common.{length, take, drop, map, sum_by, refl, ap, arith, sym, ◌∙◌, Some, None, Option, slice_get, subst, All, Contains, ◌⊎◌, inl, inr}
+use Rattle.std.proofs.Common.{unsigned_abs}
+use Rattle.std.specs.List.{filter}
+use Rattle.std.specs.Int.{int_min}
+use Rattle.std.proofs.lemmas.Int.{ints}
+use Rattle.std.proofs.lemmas.Bool.{cases_lt}
+use Rattle.std.proofs.lemmas.List.{take_all}
+use Rattle.std.proofs.lemmas.List.Sums.{sum_by-cons}
+use Rattle.std.proofs.lemmas.Option.{slice_get_within, get_or_from_slice_get}
+use Rattle.lattice_theory.specs.Lists.{sum_zip}
+use Rattle.lattice_theory.specs.Vectors.{Vector, add, scale, zeros}
+use Rattle.lattice_theory.specs.Matrices.{product}
+use Rattle.lattice_theory.specs.SignedSums.{vectors}
+use Rattle.lattice_laws.proofs.Members.{contains_cases, contains_head, contains_tail, mapped, mapped_from, filtered, filtered_from}
+use Rattle.lattice_laws.proofs.Multiples.{scale-zeros}
+use Rattle.lattice_laws.proofs.Sums.{add_zeros}
+use Rattle.piece_laws.proofs.Bounds.{is_within_true, is_within_of}
+use Rattle.fold_theory.specs.declared.Phase.{Phase}
+use Rattle.fold_theory.specs.declared.Phase.TheVariants.{Closed, Counted}
+use Rattle.fold_theory.specs.Programs.{Program, Brick, Bricks, IsWithin, is_within, link_rests}
+use Rattle.fold_program.specs.Refusals.{brick_magnitude}
+use Rattle.run_theory.specs.Walks.{brick_change, end_cost, WalkCosts}
+use Rattle.run_theory.specs.Live.{least, least_change, least_before}
+use Rattle.run_theory.specs.Folds.{FoldValue}
+use Rattle.walk_laws.proofs.Walks.{front_of}
+use Rattle.sieve_laws.specs.declared.PricedMove.{PricedMove}
+use Rattle.sieve_laws.specs.Sieve.{Menu, IsMenu, after}
+use Rattle.brick_dp.specs.Ends.{IsLastLayer}
+use Rattle.brick_dp.specs.Menus.{IsBrickMenu}
+use Rattle.brick_dp.specs.Needs.{IsLeastOf, AreAbove, NoneGains}
+use Rattle.brick_dp.proofs.ChangeLaws.{at_same}
+use Rattle.brick_dp.proofs.FillLaws.{place_of, there_at, drop_here, AtBrick}
+
+-- ---- the least of a list of numbers
+
+min_low : (a b : ℤ) → (int_min a b ≤ℤ a) × (int_min a b ≤ℤ b)
+min_low a b = by (int_lt b a) refl
+  where
+    by : (t : Bool) → int_lt b a ≡ t → (cond t b a ≤ℤ a) × (cond t b a ≤ℤ b)
+    by true e = (grind (arith, ints), omega (arith, ints))
+    by false e = (omega (arith, ints), grind (arith, ints))
+
+min_one : (a b : ℤ) → (int_min a b ≡ a) ⊎ (int_min a b ≡ b)
+min_one a b = by (int_lt b a)
+  where
+    by : (t : Bool) → (cond t b a ≡ a) ⊎ (cond t b a ≡ b)
+    by true = inr refl
+    by false = inl refl
+
+least-low : (xs : List ℤ) (a : ℤ) → Contains xs a → least xs ≤ℤ a
+least-low [] a there = absurd (omega (arith, there.1))
+least-low (x ∷ []) a there = elim (contains_cases x [] a there) [
+  | inl same ↦ omega (arith, ints, same)
+  | inr later ↦ absurd (omega (arith, later.1))
+]
+least-low (x ∷ y ∷ rest) a there = elim (contains_cases x (y ∷ rest) a there) [
+  | inl same ↦ omega (arith, ints, same, (min_low x (least (y ∷ rest))).0)
+  | inr later ↦ omega (arith, ints, least-low (y ∷ rest) a later, (min_low x (least (y ∷ rest))).1)
+]
+
+least-in : (x : ℤ) (xs : List ℤ) → Contains (x ∷ xs) (least (x ∷ xs))
+least-in x [] = contains_head x []
+least-in x (y ∷ rest) = elim (min_one x (least (y ∷ rest))) [
+  | inl first ↦ subst (Contains (x ∷ y ∷ rest)) (sym first) (contains_head x (y ∷ rest))
+  | inr later ↦
+      subst (Contains (x ∷ y ∷ rest)) (sym later) (contains_tail x (y ∷ rest) (least (y ∷ rest)) (least-in y rest))
+]
+
+-- ---- the least change of a brick
+
+no_change : (phase : Phase) (b : Brick) (v : Vector) → brick_change phase b v v ≡ pos 0
+no_change Closed b v = omega (arith, ints)
+no_change Counted b v = refl
+
+listed : (vs : List Vector) (j : ℕ) (v : Vector) → slice_get vs j ≡ Some v → Contains vs v
+listed vs j v there = (j, slice_get_within vs j v there, get_or_from_slice_get vs j v v there)
+
+module _ (phase : Phase) (zs : List Vector) (k : ℕ) (b : Brick) (v : Vector) where
+  abbrev change_of : Vector → ℤ
+  change_of d = brick_change phase b v (after k v d)
+
+  abbrev stays_within : Vector → Bool
+  stays_within d = is_within b (after k v d)
+
+  pub least_change-low : (d : Vector) → Contains zs d → IsWithin b (after k v d) → least_change phase zs k b v ≤ℤ change_of d
+  least_change-low d there inside =
+      let kept = filtered stays_within zs d there (is_within_of b (after k v d) inside) in
+      least-low (map change_of (filter stays_within zs)) (change_of d) (mapped change_of (filter stays_within zs) d kept)
+
+  least_change-one : (least_change phase zs k b v ≡ pos 0)
+      ⊎ ((d : Vector) × Contains zs d × IsWithin b (after k v d) × (change_of d ≡ least_change phase zs k b v))
+  least_change-one = by (filter stays_within zs) (λ d there. filtered_from stays_within zs d there)
+    where
+      by : (ds : List Vector) → ((d : Vector) → Contains ds d → Contains zs d × (stays_within d ≡ true)) →
+          (least (map change_of ds) ≡ pos 0)
+          ⊎ ((d : Vector) × Contains zs d × IsWithin b (after k v d) × (change_of d ≡ least (map change_of ds)))
+      by [] kept = inl refl
+      by (e ∷ es) kept =
+          let (d, there, is) =
+          mapped_from change_of (e ∷ es) (least (map change_of (e ∷ es))) (least-in (change_of e) (map change_of es)) in
+          let (member, passes) = kept d there in
+          inr (d, member, is_within_true b (after k v d) passes, is)
+
+  -- the least of the menu is the least change
+  pub least_of_menu : (menu : Menu) (t : ℕ) (found : ℤ) → IsMenu phase zs k b v menu → Contains zs (zeros t) → length v ≡ t →
+      IsWithin b v → IsLeastOf menu found → found ≡ least_change phase zs k b v
+  least_of_menu menu t found is origin size inside lowest = omega (arith, ints, up, down)
+    where
+      still : after k v (zeros t) ≡ v
+      still = ap (add v) (scale-zeros (pos (2 ^ k)) t) ∙ add_zeros v t size
+
+      free : change_of (zeros t) ≡ pos 0
+      free = ap (brick_change phase b v) still ∙ no_change phase b v
+
+      up : found ≤ℤ least_change phase zs k b v
+      up = elim least_change-one [
+        | inl none ↦ omega (arith, ints, none, lowest.below_zero)
+        | inr (d, there, within, cost) ↦
+            let (h, place) = place_of zs d there in
+            let (i, m, here, at) = is.complete h d place within in
+            let (e, move, _, change) = is.sound i m here in
+            let same : e ≡ d = at_same (slice_get zs m.place) e d move (ap (slice_get zs) at ∙ place) in
+            omega (arith, ints, lowest.low i m here, change, ap change_of same, cost)
+      ]
+
+      down : least_change phase zs k b v ≤ℤ found
+      down = elim lowest.attained [
+        | inl none ↦
+            let low = least_change-low (zeros t) origin (subst (IsWithin b) (sym still) inside) in
+            omega (arith, ints, low, free, none)
+        | inr (i, m, here, cost) ↦
+            let (e, move, within, change) = is.sound i m here in
+            let low = least_change-low e (listed zs m.place e move) within in
+            omega (arith, ints, low, change, cost)
+      ]
+
+-- ---- going through a menu
+
+-- as IsLeastOf, for the first n moves
+pub record IsLeastUpTo (menu : Menu) (found : ℤ) (n : ℕ) : Type 0 where
+  pub below_zero : found ≤ℤ pos 0
+  pub low : (i : ℕ) (m : PricedMove) → i < n → slice_get menu i ≡ Some m → found ≤ℤ m.change
+  pub attained : (found ≡ pos 0) ⊎ ((i : ℕ) × (m : PricedMove) × (slice_get menu i ≡ Some m) × (m.change ≡ found))
+
+pub least_none : (menu : Menu) → IsLeastUpTo menu (pos 0) 0
+least_none menu = record {
+  below_zero = omega (arith, ints);
+  low = λ i m low. absurd (omega (arith, low));
+  attained = inl refl;
+}
+
+further : (menu : Menu) (before found : ℤ) (n : ℕ) (m : PricedMove) → slice_get menu n ≡ Some m → found ≤ℤ before →
+    found ≤ℤ m.change → IsLeastUpTo menu before n → (i : ℕ) (e : PricedMove) → i < n + 1 → slice_get menu i ≡ Some e → found ≤ℤ e.change
+further menu before found n m here down low so_far i e under there = elim (cases_lt i n) [
+  | inl first ↦ omega (arith, ints, down, so_far.low i e first there)
+  | inr last ↦
+      let place : i ≡ n = omega (arith, last, under) in
+      let same : m ≡ e = at_same (slice_get menu n) m e here (ap (slice_get menu) (sym place) ∙ there) in
+      omega (arith, ints, low, ap (λ (m : PricedMove). m.change) same)
+]
+
+pub least_kept : (menu : Menu) (found : ℤ) (n : ℕ) (m : PricedMove) → slice_get menu n ≡ Some m → found ≤ℤ m.change →
+    IsLeastUpTo menu found n → IsLeastUpTo menu found (n + 1)
+least_kept menu found n m here low so_far = record {
+  below_zero = so_far.below_zero;
+  low = further menu found found n m here (omega (arith, ints)) low so_far;
+  attained = so_far.attained;
+}
+
+pub least_new : (menu : Menu) (found : ℤ) (n : ℕ) (m : PricedMove) → slice_get menu n ≡ Some m → m.change <ℤ found →
+    IsLeastUpTo menu found n → IsLeastUpTo menu m.change (n + 1)
+least_new menu found n m here low so_far = record {
+  below_zero = omega (arith, ints, low, so_far.below_zero);
+  low = further menu found m.change n m here (omega (arith, ints, low)) (omega (arith, ints)) so_far;
+  attained = inr (n, m, here, refl);
+}
+
+pub least_all : (menu : Menu) (found : ℤ) (n : ℕ) → length menu ≤ n → IsLeastUpTo menu found n → IsLeastOf menu found
+least_all menu found n all so_far = record {
+  below_zero = so_far.below_zero;
+  low = λ i m there. so_far.low i m (omega (arith, all, slice_get_within menu i m there)) there;
+  attained = so_far.attained;
+}
+
+-- ---- going through the bricks
+
+sum_zip-next : {A B : Type 0} (f : A → B → ℤ) (xs : List A) (ys : List B) (n : ℕ) (x : A) (y : B) → slice_get xs n ≡ Some x →
+    slice_get ys n ≡ Some y → sum_zip f (take (n + 1) xs) (take (n + 1) ys) ≡ (sum_zip f (take n xs) (take n ys) +ℤ f x y)
+sum_zip-next f [] ys n x y here there = absurd (cc)
+sum_zip-next f (a ∷ xs) [] n x y here there = absurd (cc)
+sum_zip-next f (a ∷ xs) (c ∷ ys) zero x y here there =
+    let first : a ≡ x = cc in
+    let second : c ≡ y = cc in
+    let same : f a c ≡ f x y = λ i. f (first i) (second i) in
+    omega (arith, ints, same)
+sum_zip-next f (a ∷ xs) (c ∷ ys) (suc n) x y here there =
+    let e : suc n + 1 ≡ suc (n + 1) = omega arith in
+    let more = sum_zip-next f xs ys n x y here there in
+    ap (λ m. sum_zip f (take m (a ∷ xs)) (take m (c ∷ ys))) e ∙ ap (λ s. f a c +ℤ s) more
+    ∙ omega (arith, ints)
+
+-- the least change, and how large it is, after one more brick
+pub floor_more : (f : FoldValue) (x : Bricks) (k n : ℕ) (menu : Menu) (floor found : ℤ) → AtBrick f x k n menu →
+    Contains (vectors f.sums) (zeros f.program.brick.cols) → IsLeastOf menu found →
+    floor ≡ least_before f.program f.phase (vectors f.sums) x k n →
+    (floor +ℤ found) ≡ least_before f.program f.phase (vectors f.sums) x k (n + 1)
+floor_more f x k n menu floor found here origin lowest so_far =
+    let change = least_of_menu f.phase (vectors f.sums) k here.brick here.vector menu f.program.brick.cols found here.menu_is.moves origin
+    here.width here.within lowest in
+    let next = sum_zip-next (least_change f.phase (vectors f.sums) k) f.program.bricks x n here.brick here.vector here.brick_there here.vector_there in
+    omega (arith, ints, change, next, so_far)
+
+pub floor_small : (f : FoldValue) (x : Bricks) (k n : ℕ) (menu : Menu) (floor found : ℤ) (most : ℕ) → AtBrick f x k n menu → IsLeastOf menu found →
+    unsigned_abs floor + 2 * sum_by brick_magnitude (drop n f.program.bricks) ≤ most →
+    unsigned_abs (floor +ℤ found) + 2 * sum_by brick_magnitude (drop (n + 1) f.program.bricks) ≤ most
+floor_small f x k n menu floor found most here lowest so_far =
+    omega (arith, ints, so_far, split, small)
+  where
+    split : sum_by brick_magnitude (drop n f.program.bricks) ≡ brick_magnitude here.brick + sum_by brick_magnitude (drop (n + 1) f.program.bricks)
+    split = ap (sum_by brick_magnitude) (drop_here f.program.bricks n here.brick here.brick_there)
+        ∙ sum_by-cons brick_magnitude here.brick (drop (n + 1) f.program.bricks)
+
+    small : unsigned_abs found ≤ 2 * brick_magnitude here.brick
+    small = elim lowest.attained [
+      | inl none ↦ omega (arith, ints, none)
+      | inr (i, m, there, cost) ↦
+          let low = here.menu_is.small i m (slice_get_within menu i m there) in
+          let change : unsigned_abs m.change ≤ 2 * brick_magnitude here.brick =
+          subst (λ (m : PricedMove). unsigned_abs m.change ≤ 2 * brick_magnitude here.brick) (get_or_from_slice_get menu i m m there) low in
+          omega (arith, ints, change, cost)
+    ]
+
+-- ---- walks
+
+module _ (p : Program) (phase : Phase) (zs : List Vector) (k : ℕ) (rests : Vector) where
+  -- where a walk ends, and that it costs at least the least changes and its end
+  pub record EndsAt (bs : List Brick) (x : Bricks) (c : ℤ) : Type 0 where
+    pub sum : Vector
+    pub there : Contains zs sum
+    pub last : ℤ
+    pub ends : end_cost p phase rests (scale (pos (2 ^ k)) (product p.link sum)) ≡ Some last
+    pub low : (sum_zip (least_change phase zs k) bs x +ℤ last) ≤ℤ c
+
+  pub ends_at : (bs : List Brick) (x : Bricks) (w : Vector) (h : Bricks) (c : ℤ) → Contains zs w →
+      WalkCosts p phase zs k rests bs x w h c → EndsAt bs x c
+  ends_at [] [] w [] c there wc =
+      record { sum = w; there = there; last = wc.last; ends = wc.ends; low = omega (arith, ints, wc.is) }
+  ends_at [] [] w (d ∷ h) c there wc = absurd (omega (arith, wc.walk.size))
+  ends_at [] (v ∷ x) w [] c there wc = absurd (omega (arith, wc.walk.size))
+  ends_at [] (v ∷ x) w (d ∷ h) c there wc = absurd (wc.walk.within)
+  ends_at (b ∷ bs) [] w [] c there wc = absurd (wc.walk.within)
+  ends_at (b ∷ bs) [] w (d ∷ h) c there wc = absurd (omega (arith, wc.walk.size))
+  ends_at (b ∷ bs) (v ∷ x) w [] c there wc = absurd (omega (arith, wc.walk.size))
+  ends_at (b ∷ bs) (v ∷ x) w (d ∷ h) c there wc =
+      let f = front_of p phase zs k rests b bs v x w d h c wc in
+      let end = ends_at bs x (add w d) h f.rest f.sum f.walk in
+      let low = least_change-low phase zs k b v d f.move f.within in
+      record { sum = end.sum; there = end.there; last = end.last; ends = end.ends; low = omega (arith, ints, end.low, low, f.is) }
+
+-- where no end costs little enough, no walk does
+pub none_gains_above : (f : FoldValue) (x : Bricks) (k : ℕ) (last : List (Option ℤ)) (floor limit need : ℤ) →
+    IsLastLayer f k (link_rests f.program x) last → AreAbove limit last → limit ≡ ((pos 0 -ℤ need) -ℤ floor) →
+    floor ≡ least_before f.program f.phase (vectors f.sums) x k (length f.program.bricks) →
+    Contains (vectors f.sums) (zeros f.program.brick.cols) → length x ≡ length f.program.bricks → NoneGains f x k need
+none_gains_above f x k last floor limit need is above lim lowest origin same h c wc =
+    let end = ends_at f.program f.phase (vectors f.sums) k (link_rests f.program x) f.program.bricks x (zeros f.program.brick.cols) h c origin wc in
+    let (j, place) = place_of (vectors f.sums) end.sum end.there in
+    let (cell, at) = there_at last j (omega (arith, is.size, slice_get_within (vectors f.sums) j end.sum place)) in
+    let cost : cell ≡ Some end.last = is.cells j end.sum cell place at ∙ end.ends in
+    let high = above j end.last (at ∙ ap Some cost) in
+    let bricks : take (length f.program.bricks) f.program.bricks ≡ f.program.bricks = take_all (length f.program.bricks) f.program.bricks (omega arith) in
+    let point : take (length f.program.bricks) x ≡ x = take_all (length f.program.bricks) x (omega (arith, same)) in
+    let sums : least_before f.program f.phase (vectors f.sums) x k (length f.program.bricks) ≡ sum_zip (least_change f.phase (vectors f.sums) k) f.program.bricks x =
+    λ i. sum_zip (least_change f.phase (vectors f.sums) k) (bricks i) (point i) in
+    omega (arith, ints, end.low, high, lim, lowest, sums)

@@ -1,0 +1,45 @@
+use Rattle.std.proofs.Common.{◌≡◌, ◌∙◌, ◌+◌, ◌-◌, ◌*◌, ◌≤◌, ◌^◌, ◌+ℤ◌, ap, sym, arith, rules, subst, slice_get, length, sum_by, drop, unsigned_abs, FitsSigned, to_z, Some}
+use Rattle.std.specs.Int.{w128}
+use Rattle.std.proofs.lemmas.Int.{to_z-of_z, fits_signed_from_abs}
+use Rattle.fold_theory.specs.Programs.{Program, IsProgram}
+use Rattle.fold_program.specs.Refusals.{brick_magnitude, total_magnitude}
+use Rattle.brick_dp.proofs.FillLaws.{at_brick, AtBrick}
+use Rattle.brick_dp.proofs.FloorLaws.{floor_more, floor_small}
+use Rattle.brick_dp.proofs.floors.floor.Goals as goal
+
+pub overflow_add-floor : goal.overflow_add-floor
+overflow_add-floor c =
+    let f = c.args.fold.now in
+    let program : IsProgram f.program = subst IsProgram c.program.ensures c.n-done-end.ensures.program in
+    let most : total_magnitude f.program ≤ 2 ^ 120 = subst (λ p. total_magnitude p ≤ 2 ^ 120) c.program.ensures c.n-done-end.ensures.magnitude in
+    let bricks : c.n-done-end.result ≡ length f.program.bricks = c.n-done-end.ensures.bricks ∙ ap (λ (p : Program). length p.bricks) c.program.ensures in
+    let place : c.loop-done.done + 1 - 1 ≡ c.loop-done.done = omega arith in
+    let here : AtBrick f c.args._point.now c.args._k c.loop-done.done c.of.result.now =
+    at_brick f c.args._point.now c.args._k c.loop-done.done c.args.menus.now c.of.result.now program c.requires.within
+    c.requires.menus (omega (arith, bricks, c.loop-done-test.true)) (ap (slice_get c.args.menus.now) (sym place) ∙ c.of.ensures) in
+    let found : FitsSigned w128 c.least_change-floor.result = search rules in
+    let small = floor_small f c.args._point.now c.args._k c.loop-done.done c.of.result.now (to_z w128 c.loop-done.floor-bits) c.least_change-floor.result
+    (2 * total_magnitude f.program) here c.least_change-floor.ensures c.loop-done.invariant.small in
+    simp to_z-of_z (fits_signed_from_abs w128 (to_z w128 c.loop-done.floor-bits +ℤ c.least_change-floor.result) (omega (arith, small, most)))
+
+pub loop-done-preserved : goal.loop-done-preserved
+loop-done-preserved c =
+    let f = c.args.fold.now in
+    let program : IsProgram f.program = subst IsProgram c.program.ensures c.n-done-end.ensures.program in
+    let most : total_magnitude f.program ≤ 2 ^ 120 = subst (λ p. total_magnitude p ≤ 2 ^ 120) c.program.ensures c.n-done-end.ensures.magnitude in
+    let bricks : c.n-done-end.result ≡ length f.program.bricks = c.n-done-end.ensures.bricks ∙ ap (λ (p : Program). length p.bricks) c.program.ensures in
+    let place : c.loop-done.done + 1 - 1 ≡ c.loop-done.done = omega arith in
+    let here : AtBrick f c.args._point.now c.args._k c.loop-done.done c.of.result.now =
+    at_brick f c.args._point.now c.args._k c.loop-done.done c.args.menus.now c.of.result.now program c.requires.within
+    c.requires.menus (omega (arith, bricks, c.loop-done-test.true)) (ap (slice_get c.args.menus.now) (sym place) ∙ c.of.ensures) in
+    let found : FitsSigned w128 c.least_change-floor.result = search rules in
+    let small = floor_small f c.args._point.now c.args._k c.loop-done.done c.of.result.now (to_z w128 c.loop-done.floor-bits) c.least_change-floor.result
+    (2 * total_magnitude f.program) here c.least_change-floor.ensures c.loop-done.invariant.small in
+    let sum : FitsSigned w128 (to_z w128 c.loop-done.floor-bits +ℤ c.least_change-floor.result) =
+    fits_signed_from_abs w128 (to_z w128 c.loop-done.floor-bits +ℤ c.least_change-floor.result) (omega (arith, small, most)) in
+    simp to_z-of_z (record {
+      is =
+          floor_more f c.args._point.now c.args._k c.loop-done.done c.of.result.now (to_z w128 c.loop-done.floor-bits) c.least_change-floor.result here
+          c.requires.zero c.least_change-floor.ensures c.loop-done.invariant.is;
+      small = small;
+    })

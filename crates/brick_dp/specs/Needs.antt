@@ -1,0 +1,42 @@
+-- What a step has to gain, and by how much the moves of all bricks can lower the cost at most.
+use Rattle.std.specs.Prelude.{◌≡◌, ℕ, ◌^◌, ◌<◌, ◌≤◌, ◌⊎◌, ℤ, pos, ◌-ℤ◌, ◌≤ℤ◌, ◌<ℤ◌, false, List, Option, Some, None, IsTrue, slice_get}
+use Rattle.lattice_theory.specs.Vectors.{zeros}
+use Rattle.lattice_theory.specs.SignedSums.{vectors}
+use Rattle.fold_theory.specs.Programs.{Bricks, link_rests}
+use Rattle.run_theory.specs.declared.Key.{Key}
+use Rattle.run_theory.specs.Keys.{beaten}
+use Rattle.run_theory.specs.Outcomes.{Step}
+use Rattle.run_theory.specs.Walks.{WalkCosts}
+use Rattle.run_theory.specs.Folds.{FoldValue}
+use Rattle.run_theory.specs.Bests.{IsFound}
+use Rattle.sieve_laws.specs.declared.PricedMove.{PricedMove}
+use Rattle.sieve_laws.specs.Sieve.{Menu}
+
+-- a gain is at least this exactly where it is above 0 and the bound does not beat it; no step gains 2 ^ 124
+pub record IsNeeded (k : ℕ) (bound : Option Key) (need : ℤ) : Type 0 where
+  pub low : pos 1 ≤ℤ need
+  pub high : need ≤ℤ pos (2 ^ 124)
+  pub enough : (q : ℕ) → q < 2 ^ 124 → need ≤ℤ pos q → beaten (record { gain = q; k = k }) bound ≡ false
+  pub few : (q : ℕ) → q < 2 ^ 124 → pos q <ℤ need → (q ≡ 0) ⊎ IsTrue (beaten (record { gain = q; k = k }) bound)
+
+-- no step of that length lowers the cost by so much
+abbrev pub NoneGains : FoldValue → Bricks → ℕ → ℤ → Type 0
+NoneGains f x k need =
+    (h : Bricks) (c : ℤ) →
+    WalkCosts f.program f.phase (vectors f.sums) k (link_rests f.program x) f.program.bricks x (zeros f.program.brick.cols) h c →
+    (pos 0 -ℤ need) <ℤ c
+
+-- the best step of that length, where it lowers the cost by so much
+abbrev pub IsStepUnder : FoldValue → Bricks → ℕ → ℤ → Option Step → Type 0
+IsStepUnder f x k need None = NoneGains f x k need
+IsStepUnder f x k need (Some s) = IsFound f x k s × (need ≤ℤ pos s.gain) × (s.gain < 2 ^ 124)
+
+-- the least change of the moves, and 0 where none is below it
+pub record IsLeastOf (menu : Menu) (least : ℤ) : Type 0 where
+  pub below_zero : least ≤ℤ pos 0
+  pub low : (i : ℕ) (m : PricedMove) → slice_get menu i ≡ Some m → least ≤ℤ m.change
+  pub attained : (least ≡ pos 0) ⊎ ((i : ℕ) × (m : PricedMove) × (slice_get menu i ≡ Some m) × (m.change ≡ least))
+
+-- each cost that is there is above the limit
+abbrev pub AreAbove : ℤ → List (Option ℤ) → Type 0
+AreAbove limit costs = (i : ℕ) (a : ℤ) → slice_get costs i ≡ Some (Some a) → limit <ℤ a
