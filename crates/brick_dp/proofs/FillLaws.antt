@@ -97,7 +97,7 @@ module _ (f : FoldValue) (x : Bricks) (k : ℕ) (same : length x ≡ length f.pr
   zs = vectors f.sums
 
   -- the last layer
-  last_is : (layer : Layer) → IsLastLayer f k (link_rests f.program x) layer → IsLayer f x k n layer
+  pub last_is : (layer : Layer) → IsLastLayer f k (link_rests f.program x) layer → IsLayer f x k n layer
   last_is layer last = record {
     least = record { size = last.size; cells = cells };
     small = AreAtMost-more (2 ^ 118) (most_from f.program n) layer (omega arith) last.small;
@@ -140,6 +140,14 @@ module _ (f : FoldValue) (x : Bricks) (k : ℕ) (same : length x ≡ length f.pr
           subst (λ l. IsLayer f x k (n - 0) l) (at_same (Some layer) layer other refl there) (subst (λ i. IsLayer f x k i layer) first (last_is layer last))
       by (suc m) other there = absurd (cc)
 
+  -- the layer over the last one
+  pub layer_over : (m : ℕ) (layers : List Layer) (next layer : Layer) (b : Brick) (v : Vector) (menu : Menu) → m < n → AreLayers f x k (m + 1) layers →
+      slice_get layers m ≡ Some next → slice_get f.program.bricks (n - m - 1) ≡ Some b → slice_get x (n - m - 1) ≡ Some v →
+      IsBrickMenu f k b v menu → IsLayerOver zs menu next layer → IsLayer f x k (n - m - 1) layer
+  layer_over m layers next layer b v menu low so_far there brick at is_menu over =
+      let joined : n - m ≡ n - m - 1 + 1 = omega (arith, low) in
+      over_is (n - m - 1) b v menu next layer brick at is_menu (subst (λ i. IsLayer f x k i next) joined (so_far.each m next there)) over
+
   -- one more layer
   pub layers_more : (m : ℕ) (layers more : List Layer) (next layer : Layer) (b : Brick) (v : Vector) (menu : Menu) → m < n → AreLayers f x k (m + 1) layers →
       more ≡ layers ++ layer ∷ [] → slice_get layers m ≡ Some next → slice_get f.program.bricks (n - m - 1) ≡ Some b → slice_get x (n - m - 1) ≡ Some v →
@@ -158,9 +166,7 @@ module _ (f : FoldValue) (x : Bricks) (k : ℕ) (same : length x ≡ length f.pr
 
       new : IsLayer f x k (n - (m + 1)) layer
       new =
-          subst (λ i. IsLayer f x k i layer) place (
-          over_is (n - m - 1) b v menu next layer brick at is_menu (subst (λ i. IsLayer f x k i next) joined (so_far.each m next there)) over
-          )
+          subst (λ i. IsLayer f x k i layer) place (layer_over m layers next layer b v menu low so_far there brick at is_menu over)
 
       by : (i : ℕ) (other : Layer) → (slice_get layers i ≡ Some other) ⊎ ((i ≡ length layers) × (layer ≡ other)) → IsLayer f x k (n - i) other
       by i other (inl before) = so_far.each i other before

@@ -1,17 +1,15 @@
 -- By how much the moves of all bricks lower the cost at most, each brick taken by itself.
-use Rattle.std.proofs.Common.{◌≡◌, ℕ, zero, suc, ◌+◌, ◌*◌, ◌^◌, ◌<◌, ◌≤◌, ℤ, pos, ◌+ℤ◌, ◌-ℤ◌, ◌≤ℤ◌, ◌<ℤ◌, Bool, true, false, cond, int_lt, List, [], ◌∷◌}
+use Rattle.std.proofs.Common.{◌≡◌, ℕ, zero, suc, ◌+◌, ◌-◌, ◌*◌, ◌^◌, ◌<◌, ◌≤◌, ℤ, pos, ◌+ℤ◌, ◌-ℤ◌, ◌≤ℤ◌, ◌<ℤ◌, Bool, true, false, cond, int_lt, List, [], ◌∷◌}
 use Rattle.std.proofs.Common.{length, take, drop, map, sum_by, refl, ap, arith, sym, ◌∙◌, Some, None, Option, slice_get, subst, All, Contains, ◌⊎◌, inl, inr}
 use Rattle.std.proofs.Common.{unsigned_abs}
 use Rattle.std.specs.List.{filter}
 use Rattle.std.specs.Int.{int_min}
 use Rattle.std.proofs.lemmas.Int.{ints}
 use Rattle.std.proofs.lemmas.Bool.{cases_lt}
-use Rattle.std.proofs.lemmas.List.{take_all}
-use Rattle.std.proofs.lemmas.List.Sums.{sum_by-cons}
+use Rattle.std.proofs.lemmas.List.Sums.{sum_by-cons, sum_by-take-drop}
 use Rattle.std.proofs.lemmas.Option.{slice_get_within, get_or_from_slice_get}
 use Rattle.lattice_theory.specs.Lists.{sum_zip}
-use Rattle.lattice_theory.specs.Vectors.{Vector, add, scale, zeros}
-use Rattle.lattice_theory.specs.Matrices.{product}
+use Rattle.lattice_theory.specs.Vectors.{Vector, add, zeros}
 use Rattle.lattice_theory.specs.SignedSums.{vectors}
 use Rattle.lattice_laws.proofs.Members.{contains_cases, contains_head, contains_tail, mapped, mapped_from, filtered, filtered_from}
 use Rattle.lattice_laws.proofs.Multiples.{scale-zeros}
@@ -20,14 +18,15 @@ use Rattle.piece_laws.proofs.Bounds.{is_within_true, is_within_of}
 use Rattle.fold_theory.specs.declared.Phase.{Phase}
 use Rattle.fold_theory.specs.declared.Phase.TheVariants.{Closed, Counted}
 use Rattle.fold_theory.specs.Programs.{Program, Brick, Bricks, IsWithin, is_within, link_rests}
-use Rattle.fold_program.specs.Refusals.{brick_magnitude}
-use Rattle.run_theory.specs.Walks.{brick_change, end_cost, WalkCosts}
+use Rattle.fold_program.specs.Refusals.{brick_magnitude, total_magnitude}
+use Rattle.run_theory.specs.Walks.{brick_change, WalkCosts}
 use Rattle.run_theory.specs.Live.{least, least_change, least_before}
 use Rattle.run_theory.specs.Folds.{FoldValue}
 use Rattle.walk_laws.proofs.Walks.{front_of}
 use Rattle.sieve_laws.specs.declared.PricedMove.{PricedMove}
 use Rattle.sieve_laws.specs.Sieve.{Menu, IsMenu, after}
-use Rattle.brick_dp.specs.Ends.{IsLastLayer}
+use Rattle.sieve_laws.specs.Sieve.{Layer}
+use Rattle.brick_dp.specs.Tables.{IsLayer}
 use Rattle.brick_dp.specs.Menus.{IsBrickMenu}
 use Rattle.brick_dp.specs.Needs.{IsLeastOf, AreAbove, NoneGains}
 use Rattle.brick_dp.proofs.ChangeLaws.{at_same}
@@ -232,46 +231,96 @@ floor_small f x k n menu floor found most here lowest so_far =
           omega (arith, ints, change, cost)
     ]
 
+-- the least change before that brick
+pub floor_less : (f : FoldValue) (x : Bricks) (k n : ℕ) (menu : Menu) (floor found : ℤ) → AtBrick f x k n menu →
+    Contains (vectors f.sums) (zeros f.program.brick.cols) → IsLeastOf menu found →
+    floor ≡ least_before f.program f.phase (vectors f.sums) x k (n + 1) →
+    (floor -ℤ found) ≡ least_before f.program f.phase (vectors f.sums) x k n
+floor_less f x k n menu floor found here origin lowest so_far =
+    let more = floor_more f x k n menu (least_before f.program f.phase (vectors f.sums) x k n) found here origin lowest refl in
+    omega (arith, ints, more, so_far)
+
+pub floor_down : (f : FoldValue) (x : Bricks) (k n : ℕ) (menu : Menu) (floor found : ℤ) (most : ℕ) → AtBrick f x k n menu → IsLeastOf menu found →
+    unsigned_abs floor ≤ most + 2 * sum_by brick_magnitude (drop (n + 1) f.program.bricks) →
+    unsigned_abs (floor -ℤ found) ≤ most + 2 * sum_by brick_magnitude (drop n f.program.bricks)
+floor_down f x k n menu floor found most here lowest so_far =
+    let one = floor_small f x k n menu (pos 0) found (2 * sum_by brick_magnitude (drop n f.program.bricks)) here lowest (omega (arith, ints)) in
+    omega (arith, ints, one, so_far)
+
+-- the same before one more brick, from the last one on
+pub floor_next : (f : FoldValue) (x : Bricks) (k done : ℕ) (menu : Menu) (floor found : ℤ) → done < length f.program.bricks →
+    AtBrick f x k (length f.program.bricks - done - 1) menu → Contains (vectors f.sums) (zeros f.program.brick.cols) → IsLeastOf menu found →
+    floor ≡ least_before f.program f.phase (vectors f.sums) x k (length f.program.bricks - done) →
+    unsigned_abs floor ≤ 2 * total_magnitude f.program + 2 * sum_by brick_magnitude (drop (length f.program.bricks - done) f.program.bricks) →
+    ((floor -ℤ found) ≡ least_before f.program f.phase (vectors f.sums) x k (length f.program.bricks - (done + 1)))
+    × (unsigned_abs (floor -ℤ found) ≤ 2 * total_magnitude f.program + 2 * sum_by brick_magnitude (drop (length f.program.bricks - (done + 1)) f.program.bricks))
+floor_next f x k done menu floor found low here origin lowest so_far small =
+    let n = length f.program.bricks in
+    let joined : n - done ≡ n - done - 1 + 1 = omega (arith, low) in
+    let place : n - done - 1 ≡ n - (done + 1) = omega arith in
+    let before = floor_less f x k (n - done - 1) menu floor found here origin lowest (so_far ∙ ap (least_before f.program f.phase (vectors f.sums) x k) joined) in
+    let down = floor_down f x k (n - done - 1) menu floor found (2 * total_magnitude f.program) here lowest
+    (subst (λ i. unsigned_abs floor ≤ 2 * total_magnitude f.program + 2 * sum_by brick_magnitude (drop i f.program.bricks)) joined small) in (
+      before ∙ ap (least_before f.program f.phase (vectors f.sums) x k) place,
+      subst (λ i. unsigned_abs (floor -ℤ found) ≤ 2 * total_magnitude f.program + 2 * sum_by brick_magnitude (drop i f.program.bricks)) place down,
+    )
+
+pub floor_fits : (f : FoldValue) (i : ℕ) (floor : ℤ) → total_magnitude f.program ≤ 2 ^ 120 →
+    unsigned_abs floor ≤ 2 * total_magnitude f.program + 2 * sum_by brick_magnitude (drop i f.program.bricks) → unsigned_abs floor ≤ 2 ^ 122
+floor_fits f i floor most small = omega (arith, most, small, sum_by-take-drop brick_magnitude f.program.bricks i)
+
 -- ---- walks
 
 module _ (p : Program) (phase : Phase) (zs : List Vector) (k : ℕ) (rests : Vector) where
-  -- where a walk ends, and that it costs at least the least changes and its end
-  pub record EndsAt (bs : List Brick) (x : Bricks) (c : ℤ) : Type 0 where
+  -- where a walk comes to after the first n bricks, and that it costs at least their least changes and its rest
+  pub record Passes (bs : List Brick) (x : Bricks) (n : ℕ) (c : ℤ) : Type 0 where
     pub sum : Vector
     pub there : Contains zs sum
-    pub last : ℤ
-    pub ends : end_cost p phase rests (scale (pos (2 ^ k)) (product p.link sum)) ≡ Some last
-    pub low : (sum_zip (least_change phase zs k) bs x +ℤ last) ≤ℤ c
+    pub moves : Bricks
+    pub rest : ℤ
+    pub walk : WalkCosts p phase zs k rests (drop n bs) (drop n x) sum moves rest
+    pub low : (sum_zip (least_change phase zs k) (take n bs) (take n x) +ℤ rest) ≤ℤ c
 
-  pub ends_at : (bs : List Brick) (x : Bricks) (w : Vector) (h : Bricks) (c : ℤ) → Contains zs w →
-      WalkCosts p phase zs k rests bs x w h c → EndsAt bs x c
-  ends_at [] [] w [] c there wc =
-      record { sum = w; there = there; last = wc.last; ends = wc.ends; low = omega (arith, ints, wc.is) }
-  ends_at [] [] w (d ∷ h) c there wc = absurd (omega (arith, wc.walk.size))
-  ends_at [] (v ∷ x) w [] c there wc = absurd (omega (arith, wc.walk.size))
-  ends_at [] (v ∷ x) w (d ∷ h) c there wc = absurd (wc.walk.within)
-  ends_at (b ∷ bs) [] w [] c there wc = absurd (wc.walk.within)
-  ends_at (b ∷ bs) [] w (d ∷ h) c there wc = absurd (omega (arith, wc.walk.size))
-  ends_at (b ∷ bs) (v ∷ x) w [] c there wc = absurd (omega (arith, wc.walk.size))
-  ends_at (b ∷ bs) (v ∷ x) w (d ∷ h) c there wc =
+  pub passes : (bs : List Brick) (x : Bricks) (n : ℕ) (w : Vector) (h : Bricks) (c : ℤ) → n ≤ length bs → Contains zs w →
+      WalkCosts p phase zs k rests bs x w h c → Passes bs x n c
+  passes bs x zero w h c few there wc =
+      record { sum = w; there = there; moves = h; rest = c; walk = wc; low = omega (arith, ints) }
+  passes [] x (suc n) w h c few there wc = absurd (omega (arith, few))
+  passes (b ∷ bs) [] (suc n) w [] c few there wc = absurd (wc.walk.within)
+  passes (b ∷ bs) [] (suc n) w (d ∷ h) c few there wc = absurd (omega (arith, wc.walk.size))
+  passes (b ∷ bs) (v ∷ x) (suc n) w [] c few there wc = absurd (omega (arith, wc.walk.size))
+  passes (b ∷ bs) (v ∷ x) (suc n) w (d ∷ h) c few there wc =
       let f = front_of p phase zs k rests b bs v x w d h c wc in
-      let end = ends_at bs x (add w d) h f.rest f.sum f.walk in
+      let behind = passes bs x n (add w d) h f.rest (omega (arith, few)) f.sum f.walk in
       let low = least_change-low phase zs k b v d f.move f.within in
-      record { sum = end.sum; there = end.there; last = end.last; ends = end.ends; low = omega (arith, ints, end.low, low, f.is) }
+      record {
+        sum = behind.sum;
+        there = behind.there;
+        moves = behind.moves;
+        rest = behind.rest;
+        walk = behind.walk;
+        low = omega (arith, ints, behind.low, low, f.is);
+      }
 
--- where no end costs little enough, no walk does
-pub none_gains_above : (f : FoldValue) (x : Bricks) (k : ℕ) (last : List (Option ℤ)) (floor limit need : ℤ) →
-    IsLastLayer f k (link_rests f.program x) last → AreAbove limit last → limit ≡ ((pos 0 -ℤ need) -ℤ floor) →
-    floor ≡ least_before f.program f.phase (vectors f.sums) x k (length f.program.bricks) →
-    Contains (vectors f.sums) (zeros f.program.brick.cols) → length x ≡ length f.program.bricks → NoneGains f x k need
-none_gains_above f x k last floor limit need is above lim lowest origin same h c wc =
-    let end = ends_at f.program f.phase (vectors f.sums) k (link_rests f.program x) f.program.bricks x (zeros f.program.brick.cols) h c origin wc in
-    let (j, place) = place_of (vectors f.sums) end.sum end.there in
-    let (cell, at) = there_at last j (omega (arith, is.size, slice_get_within (vectors f.sums) j end.sum place)) in
-    let cost : cell ≡ Some end.last = is.cells j end.sum cell place at ∙ end.ends in
-    let high = above j end.last (at ∙ ap Some cost) in
-    let bricks : take (length f.program.bricks) f.program.bricks ≡ f.program.bricks = take_all (length f.program.bricks) f.program.bricks (omega arith) in
-    let point : take (length f.program.bricks) x ≡ x = take_all (length f.program.bricks) x (omega (arith, same)) in
-    let sums : least_before f.program f.phase (vectors f.sums) x k (length f.program.bricks) ≡ sum_zip (least_change f.phase (vectors f.sums) k) f.program.bricks x =
-    λ i. sum_zip (least_change f.phase (vectors f.sums) k) (bricks i) (point i) in
-    omega (arith, ints, end.low, high, lim, lowest, sums)
+-- where no walk from a node of the layer costs little enough, none gains so much
+pub none_gains_above : (f : FoldValue) (x : Bricks) (k i : ℕ) (layer : Layer) (floor need : ℤ) → i ≤ length f.program.bricks →
+    IsLayer f x k i layer → AreAbove ((pos 0 -ℤ need) -ℤ floor) layer →
+    floor ≡ least_before f.program f.phase (vectors f.sums) x k i → Contains (vectors f.sums) (zeros f.program.brick.cols) → NoneGains f x k need
+none_gains_above f x k i layer floor need low is above lowest origin h c wc =
+    by there.0 there.1
+  where
+    way : Passes f.program f.phase (vectors f.sums) k (link_rests f.program x) f.program.bricks x i c
+    way = passes f.program f.phase (vectors f.sums) k (link_rests f.program x) f.program.bricks x i (zeros f.program.brick.cols) h c low origin wc
+
+    place : (j : ℕ) × (slice_get (vectors f.sums) j ≡ Some way.sum)
+    place = place_of (vectors f.sums) way.sum way.there
+
+    there : (cell : Option ℤ) × (slice_get layer place.0 ≡ Some cell)
+    there = there_at layer place.0 (omega (arith, is.least.size, slice_get_within (vectors f.sums) place.0 way.sum place.1))
+
+    by : (cell : Option ℤ) → slice_get layer place.0 ≡ Some cell → (pos 0 -ℤ need) <ℤ c
+    by None at = absurd (is.least.cells place.0 way.sum None place.1 at way.moves way.rest way.walk)
+    by (Some a) at =
+        let most = (is.least.cells place.0 way.sum (Some a) place.1 at).1 way.moves way.rest way.walk in
+        let high = above place.0 a at in
+        omega (arith, ints, way.low, most, high, lowest)

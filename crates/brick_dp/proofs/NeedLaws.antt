@@ -1,5 +1,5 @@
 -- The best step from the best walk, and the answer where no walk lowers the cost by what is needed.
-use Rattle.std.proofs.Common.{◌≡◌, ℕ, ◌^◌, ◌<◌, ◌≤◌, ℤ, pos, ◌-ℤ◌, ◌≤ℤ◌, ◌<ℤ◌, Bool, true, false, List, [], ◌∷◌, length, refl, ap, arith, sym, ◌∙◌}
+use Rattle.std.proofs.Common.{◌≡◌, ℕ, ◌^◌, ◌<◌, ◌≤◌, ℤ, pos, ◌-ℤ◌, ◌≤ℤ◌, ◌<ℤ◌, Bool, true, false, not, List, [], ◌∷◌, length, refl, ap, arith, sym, ◌∙◌}
 use Rattle.std.proofs.Common.{Some, None, Option, subst, All, ◌⊎◌, inl, inr, IsTrue, unsigned_abs, int_lt}
 use Rattle.std.proofs.lemmas.Int.{ints}
 use Rattle.walk_laws.proofs.Candidates.{widths_within}
@@ -15,6 +15,10 @@ use Rattle.walk_laws.proofs.BestWalks.{IsBestWalk}
 use Rattle.walk_laws.proofs.BestSteps.{none_augments, walk_augments, best_is_first, gain_is}
 use Rattle.sieve_laws.proofs.Existence.{BestOrNone, best_or_none}
 use Rattle.brick_dp.specs.Needs.{IsNeeded, NoneGains}
+
+pub not_is : (b : Bool) → not b ≡ true → b ≡ false
+not_is true e = absurd (cc)
+not_is false e = refl
 
 module _ (f : FoldValue) (x : Bricks) (k : ℕ) (program : IsProgram f.program) (within : AreWithin f.program.bricks x)
     (cols : f.program.brick.cols ≡ f.program.link.cols) (widths : All (λ z. length z ≡ f.program.brick.cols) (vectors f.sums)) where

@@ -40,3 +40,11 @@ pub record IsLeastOf (menu : Menu) (least : ℤ) : Type 0 where
 -- each cost that is there is above the limit
 abbrev pub AreAbove : ℤ → List (Option ℤ) → Type 0
 AreAbove limit costs = (i : ℕ) (a : ℤ) → slice_get costs i ≡ Some (Some a) → limit <ℤ a
+
+-- some gain is needed, and no step of that length lowers the cost by so much
+abbrev pub IsHopeless : FoldValue → Bricks → ℕ → Option Key → Type 0
+IsHopeless f x k bound = (need : ℤ) × IsNeeded k bound need × NoneGains f x k need
+
+-- some gain is needed, and no cost of the layer is so low that with the floor it gains so much
+abbrev pub AreBeaten : ℕ → Option Key → List (Option ℤ) → ℤ → Type 0
+AreBeaten k bound costs floor = (need : ℤ) × IsNeeded k bound need × AreAbove ((pos 0 -ℤ need) -ℤ floor) costs

@@ -13,8 +13,7 @@ ghost use Rattle.brick_dp.specs.Answers.{IsStepAnswer};
 
 use crate::answers::{Step, StepAnswer};
 use crate::bounds::{Bound, needed};
-use crate::filling::layers;
-use crate::floors::may_gain;
+use crate::filling::layers_under;
 use crate::folds::Fold;
 use crate::menus::Menus;
 use crate::reading::step_from;
@@ -27,9 +26,10 @@ use step_lengths::count;
 ///
 /// The fold's sums are the brick sums of its program and phase; the point is within the bounds and meets its brick
 /// rows, in phase `Closed` the linking rows too; and `2^k` is a step length. The bound is asked as the call begins,
-/// and once more before the step is read off. `moves` rises by one for each sum to which a move leads that could lower
-/// its cost, so by at most as often as there are bricks times sums times sums; where the moves of all bricks, each
-/// taken by itself, cannot gain what the bound asks for, no move is tried.
+/// for each layer that differs from the one behind it, and once more before the step is read off. `moves` rises by one
+/// for each sum to which a move leads that could lower its cost, so by at most as often as there are bricks times sums
+/// times sums; where the moves of all bricks, each taken by itself, cannot gain what the bound asks for, no move is
+/// tried.
 ///
 /// `AllocError` comes only where memory runs out.
 pub fn best_step<B: Bound>(
@@ -81,11 +81,10 @@ pub fn best_step_with<B: Bound>(
     prove!(k < lengths);
     prove!(fold.program().n() > 0);
     prove!(fold.sums().zero() < fold.sums().len());
-    let need_before = needed(bound.now(), k);
-    if !may_gain(alloc, fold, menus, point, k, need_before)? {
+    let layers = layers_under(alloc, fold, targets, menus, point, k, bound, moves)?;
+    let Some(layers) = layers else {
         return Ok(StepAnswer::Beaten);
-    }
-    let layers = layers(alloc, fold, targets, menus, point, k, moves)?;
+    };
     let need = needed(bound.now(), k);
     match step_under(alloc, fold, targets, menus, point, k, &layers, need)? {
         Some(step) => Ok(StepAnswer::Found(step)),

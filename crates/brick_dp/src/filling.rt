@@ -1,15 +1,19 @@
 //! All layers, from the last one to the first.
 
-ghost use Rattle.std.specs.Prelude.{◌≡◌, ◌+◌, ◌*◌, ◌<◌, ◌≤◌, ◌^◌, ◌++◌, ◌∷◌, [], length, All, Contains, Some, IsTrue, IfOk, OnOk, slice_get};
+ghost use Rattle.std.specs.Prelude.{◌≡◌, ◌+◌, ◌*◌, ◌<◌, ◌≤◌, ◌^◌, ◌++◌, ◌∷◌, [], length, All, Contains, Some, IsTrue, IfOk, OnOk, MatchOption, slice_get, unsigned_abs};
+ghost use Rattle.std.specs.Bool.{OnTrue};
 ghost use Rattle.lattice_theory.specs.Vectors.{is_rising, zeros};
 ghost use Rattle.lattice_theory.specs.SignedSums.{vectors};
 ghost use Rattle.fold_theory.specs.Programs.{AreWithin};
 ghost use Rattle.sieve_laws.specs.Sieve.{MayStay, IsLayerOver, AreTops};
 ghost use Rattle.layer_sieve.specs.Reaching.{AreAtMost, IsFair};
 ghost use Rattle.brick_dp.specs.Menus.{AreMenus};
+ghost use Rattle.brick_dp.specs.Needs.{IsHopeless, AreBeaten};
 ghost use Rattle.brick_dp.specs.Tables.{AreLayers};
 
+use crate::bounds::{Bound, needed};
 use crate::ends::last_layer;
+use crate::floors::{any_within, floor, least_change};
 use crate::folds::Fold;
 use crate::menus::Menus;
 use fold_program::Point;
@@ -57,8 +61,73 @@ pub(crate) fn layers(
     Ok(layers)
 }
 
-/// Adds the layer over the last one, which is number `last`. It stands in `layer`, as does the new one afterwards;
-/// `tops` has bounds for the moves over it.
+/// All layers, where the bound leaves hope for a step to the end: none where no node of some layer leads to a step that
+/// gains what the bound asks for. It is asked for the last layer, and for each that differs from the one behind it.
+pub(crate) fn layers_under<B: Bound>(
+    alloc: Global,
+    fold: &Fold,
+    targets: &Targets,
+    menus: &Menus,
+    point: &Point,
+    k: u32,
+    bound: &mut B,
+    moves: &mut Moves,
+) -> Result<Option<Layers>, AllocError>
+    requires rising { IsTrue (is_rising (vectors fold.now.sums)) }
+    requires targets { targets.now ≡ fold.now.sums }
+    requires zero { Contains (vectors fold.now.sums) (zeros fold.now.program.brick.cols) }
+    requires menus { AreMenus fold.now point.now k menus.now }
+    requires within { AreWithin fold.now.program.bricks point.now }
+    requires short { k < 64 }
+    ensures layers { IfOk result (λ found. MatchOption found (IsHopeless fold.now point.now k (B.last bound.new))
+        (AreLayers fold.now point.now k (length fold.now.program.bricks + 1))) }
+    ensures kept { B.later bound.old bound.new }
+    ensures rising { moves.old ≤ moves.new }
+    ensures counted { moves.new ≤ moves.old + length fold.now.program.bricks * (length fold.now.sums * length fold.now.sums) }
+{
+    let bricks = fold.program().n();
+    let mut layer = last_layer(alloc, fold, point, k)?;
+    let mut floor = floor(fold, menus, point, k);
+    if is_beaten(bound, k, &layer, floor) {
+        return Ok(None);
+    }
+    let mut layers = Layers::new(alloc, &layer)?;
+    let mut tops = vec![in alloc; None; fold.sums().len() as usize]?;
+    for done in 0..bricks {
+        let menu = menus.of(bricks - done);
+        floor -= least_change(menu);
+        let differs = add_layer(
+            alloc,
+            targets,
+            menu,
+            &mut layers,
+            done,
+            &mut layer,
+            &mut tops,
+            moves,
+        )?;
+        if differs {
+            if is_beaten(bound, k, &layer, floor) {
+                return Ok(None);
+            }
+        }
+    }
+    Ok(Some(layers))
+}
+
+/// Whether a walk through no node of the layer gains what the bound asks for, where moves of the bricks before it lower
+/// the cost to `floor` at most.
+fn is_beaten<B: Bound>(bound: &mut B, k: u32, layer: &[Option<i128>], floor: i128) -> bool
+    requires small { unsigned_abs floor ≤ 2 ^ 123 }
+    ensures beaten { OnTrue result (AreBeaten k (B.last bound.new) layer.now floor) }
+    ensures kept { B.later bound.old bound.new }
+{
+    let need = needed(bound.now(), k);
+    !any_within(layer, -need - floor)
+}
+
+/// Adds the layer over the last one, which is number `last`, and says whether it differs from that one. The last one
+/// stands in `layer`, as does the new one afterwards; `tops` has bounds for the moves over it.
 fn add_layer(
     alloc: Global,
     targets: &Targets,
@@ -68,7 +137,7 @@ fn add_layer(
     layer: &mut [Option<i128>],
     tops: &mut [Option<i128>],
     moves: &mut Moves,
-) -> Result<(), AllocError>
+) -> Result<bool, AllocError>
     requires rising { IsTrue (is_rising (vectors targets.now)) }
     requires fair { All (IsFair (length targets.now)) menu.now }
     requires size { length layer.old ≡ length targets.now }
@@ -86,8 +155,9 @@ fn add_layer(
     if lower_by(targets, menu, layers.get(last), layer, tops, moves) {
         widen(targets, layers.get(last), layer, tops);
         layers.push(alloc, layer)?;
+        Ok(true)
     } else {
         layers.repeat()?;
+        Ok(false)
     }
-    Ok(())
 }

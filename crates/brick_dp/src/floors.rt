@@ -1,52 +1,27 @@
 //! By how much the moves of all bricks lower the cost at most, each brick taken by itself.
 
-ghost use Rattle.std.specs.Prelude.{◌≡◌, ◌<◌, ◌≤◌, ◌^◌, ◌≤ℤ◌, ◌<ℤ◌, length, IfOk, unsigned_abs, Contains, pos, ◌-ℤ◌};
+ghost use Rattle.std.specs.Prelude.{◌≡◌, ◌≤◌, ◌*◌, length, unsigned_abs, Contains};
 ghost use Rattle.std.specs.Bool.{OnFalse};
 ghost use Rattle.lattice_theory.specs.SignedSums.{vectors};
 ghost use Rattle.lattice_theory.specs.Vectors.{zeros};
 ghost use Rattle.fold_theory.specs.Programs.{AreWithin};
+ghost use Rattle.fold_program.specs.Refusals.{total_magnitude};
 ghost use Rattle.run_theory.specs.Live.{least_before};
-ghost use Rattle.layer_sieve.specs.Reaching.{AreAtMost};
 ghost use Rattle.brick_dp.specs.Menus.{AreMenus};
-ghost use Rattle.brick_dp.specs.Needs.{NoneGains, IsLeastOf, AreAbove};
+ghost use Rattle.brick_dp.specs.Needs.{IsLeastOf, AreAbove};
 
-use crate::ends::last_layer;
 use crate::folds::Fold;
 use crate::menus::Menus;
 use fold_program::Point;
 use layer_sieve::PricedMove;
-use std::alloc::{AllocError, Global};
-
-/// Whether the end of some walk costs little enough that its step may gain so much: where none does, no step does.
-pub(crate) fn may_gain(
-    alloc: Global,
-    fold: &Fold,
-    menus: &Menus,
-    point: &Point,
-    k: u32,
-    need: i128,
-) -> Result<bool, AllocError>
-    requires menus { AreMenus fold.now point.now k menus.now }
-    requires zero { Contains (vectors fold.now.sums) (zeros fold.now.program.brick.cols) }
-    requires within { AreWithin fold.now.program.bricks point.now }
-    requires short { k < 64 }
-    requires least { pos 1 ≤ℤ need }
-    requires most { need ≤ℤ pos (2 ^ 124) }
-    ensures { IfOk result (λ may. OnFalse may (NoneGains fold.now point.now k need)) }
-{
-    prove!(fold.program().n() > 0);
-    let last = last_layer(alloc, fold, point, k)?;
-    let limit = -need - floor(fold, menus, point, k);
-    Ok(any_within(&last, limit))
-}
 
 /// The least that moves of all bricks change the cost by, each taken by itself.
-fn floor(fold: &Fold, menus: &Menus, _point: &Point, _k: u32) -> i128
+pub(crate) fn floor(fold: &Fold, menus: &Menus, _point: &Point, _k: u32) -> i128
     requires menus { AreMenus fold.now _point.now _k menus.now }
     requires zero { Contains (vectors fold.now.sums) (zeros fold.now.program.brick.cols) }
     requires within { AreWithin fold.now.program.bricks _point.now }
     ensures floor { result ≡ least_before fold.now.program fold.now.phase (vectors fold.now.sums) _point.now _k (length fold.now.program.bricks) }
-    ensures small { unsigned_abs result ≤ 2 ^ 121 }
+    ensures small { unsigned_abs result ≤ 2 * total_magnitude fold.now.program }
 {
     let mut floor = 0i128;
     for done in 0..fold.program().n() {
@@ -56,7 +31,7 @@ fn floor(fold: &Fold, menus: &Menus, _point: &Point, _k: u32) -> i128
 }
 
 /// The least that a move of the menu changes the cost by; 0 where none lowers it.
-fn least_change(menu: &[PricedMove]) -> i128
+pub(crate) fn least_change(menu: &[PricedMove]) -> i128
     ensures { IsLeastOf menu.now result }
 {
     let mut least = 0;
@@ -69,7 +44,7 @@ fn least_change(menu: &[PricedMove]) -> i128
 }
 
 /// Whether a cost is there that is at most the limit.
-fn any_within(costs: &[Option<i128>], limit: i128) -> bool
+pub(crate) fn any_within(costs: &[Option<i128>], limit: i128) -> bool
     ensures { OnFalse result (AreAbove limit costs.now) }
 {
     for cost in costs {
