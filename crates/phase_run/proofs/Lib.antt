@@ -1,6 +1,5 @@
 pub mod FactorLaws
 pub mod PointLaws
 pub mod StepLaws
-pub mod MenuLaws
 pub mod RoundLaws
 pub mod RunLaws

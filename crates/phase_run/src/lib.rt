@@ -5,7 +5,6 @@
 #![tactic(auto)]
 
 mod factor;
-mod menus;
 mod points;
 mod records;
 mod rounds;

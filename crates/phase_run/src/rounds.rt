@@ -5,11 +5,11 @@ ghost use Rattle.run_theory.specs.Starts.{IsStart};
 ghost use Rattle.run_theory.specs.Folds.{HasBrickSums};
 ghost use Rattle.run_theory.specs.Bests.{IsRuleStep};
 ghost use Rattle.rule_laws.specs.BestUpTo.{kept_key};
-ghost use Rattle.phase_run.specs.Menus.{AreRunMenus};
+ghost use Rattle.round_workers.specs.Menus.{AreRunMenus};
 
-use crate::menus::RunMenus;
-use brick_dp::{Bound, Fold, Key, Step, StepAnswer};
+use brick_dp::{Bound, Fold, Key, Moves, Step, StepAnswer};
 use fold_program::Point;
+use round_workers::RunMenus;
 use std::alloc::{AllocError, Global};
 use step_lengths::count;
 
@@ -52,7 +52,8 @@ pub(crate) fn rule_step(
     let mut best = None;
     for k in 0..count(fold.program().widest()) {
         let mut bound = Kept { key: key_of(&best) };
-        match menus.best_step(alloc, fold, point, k, &mut bound)? {
+        let mut moves = Moves::new();
+        match menus.best_step(alloc, fold, point, k, &mut bound, &mut moves)? {
             StepAnswer::Found(step) => best = Some(step),
             StepAnswer::Beaten => {}
         }

@@ -8,13 +8,13 @@ ghost use Rattle.run_theory.specs.Starts.{IsStart};
 ghost use Rattle.run_theory.specs.Folds.{HasBrickSums};
 
 use crate::factor::bound_number;
-use crate::menus::RunMenus;
 use crate::points::{cost_in_phase, stepped};
 use crate::records::{End, RunRecord};
 use crate::rounds::rule_step;
 use brick_dp::Fold;
 use fold_program::Point;
 use fold_shelf::Gate;
+use round_workers::RunMenus;
 use std::alloc::{AllocError, Global};
 use std::thread::Threads;
 

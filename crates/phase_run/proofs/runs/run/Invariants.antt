@@ -1,6 +1,6 @@
 use Rattle.std.proofs.Common.{◌≡◌}
 use Rattle.fold_theory.specs.Programs.{phase_cost}
-use Rattle.phase_run.specs.Menus.{AreRunMenus}
+use Rattle.round_workers.specs.Menus.{AreRunMenus}
 use Rattle.phase_run.proofs.RunLaws.{RunSoFar, height}
 use Rattle.phase_run.proofs.runs.run.Given as goal
 

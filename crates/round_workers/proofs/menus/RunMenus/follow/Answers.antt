@@ -1,8 +1,8 @@
 use Rattle.std.proofs.Common.{◌∙◌, ◌<◌, refl, ap, sym, arith, length, Some}
 use Rattle.std.proofs.lemmas.List.{length-set}
 use Rattle.std.proofs.lemmas.Option.{slice_get-get_or}
-use Rattle.phase_run.proofs.MenuLaws.{following_none, following_more, following_all}
-use Rattle.phase_run.proofs.menus.RunMenus.follow.Goals as goal
+use Rattle.round_workers.proofs.MenuLaws.{following_none, following_more, following_all}
+use Rattle.round_workers.proofs.menus.RunMenus.follow.Goals as goal
 
 pub loop-at-init : goal.loop-at-init
 loop-at-init c = record {

@@ -1,6 +1,6 @@
 use Rattle.std.proofs.Common.{◌≡◌, ◌≤◌, length}
-use Rattle.phase_run.proofs.MenuLaws.{AreFollowing}
-use Rattle.phase_run.proofs.menus.RunMenus.follow.Given as goal
+use Rattle.round_workers.proofs.MenuLaws.{AreFollowing}
+use Rattle.round_workers.proofs.menus.RunMenus.follow.Given as goal
 
 abbrev pub invariant-loop-at : goal.invariant-loop-at
 invariant-loop-at l = record {

@@ -1,11 +1,12 @@
-//! The menus of a run, which follow its point.
+//! The menus of a run of rounds, which follow its point.
 
-ghost use Rattle.std.specs.Prelude.{◌≡◌, ◌<◌, ◌≤◌, length, IfOk, OnOk};
+ghost use Rattle.std.specs.Prelude.{◌≡◌, ◌+◌, ◌*◌, ◌<◌, ◌≤◌, length, IfOk, IfSome, IfNone, OnOk};
 ghost use Rattle.fold_theory.specs.Programs.{AreWithin, IsLength};
 ghost use Rattle.run_theory.specs.Starts.{IsStart};
 ghost use Rattle.run_theory.specs.Folds.{HasBrickSums};
 ghost use Rattle.brick_dp.specs.Answers.{IsStepAnswer};
-ghost use Rattle.phase_run.specs.Menus.{AreRunMenus};
+ghost use Rattle.brick_dp.specs.Menus.{AreMenus};
+ghost use Rattle.round_workers.specs.Menus.{AreRunMenus};
 
 use brick_dp::{Bound, Fold, Menus, Moves, StepAnswer, Targets, best_step_with};
 use fold_program::Point;
@@ -18,18 +19,14 @@ const MOVES_KEPT: u64 = 1 << 22;
 /// What a run keeps from one step to the next: where each sum leads, and the menus of its point for the first step
 /// lengths.
 #[derive(Debug, Drop)]
-pub(crate) struct RunMenus<'a> {
+pub struct RunMenus<'a> {
     targets: Targets<'a>,
     menus: Vec<Menus>,
 }
 
 impl<'a> RunMenus<'a> {
     /// The menus at a point within the bounds. An error comes only where memory runs out.
-    pub(crate) fn new(
-        alloc: Global,
-        fold: &'a Fold,
-        point: &Point,
-    ) -> Result<RunMenus<'a>, AllocError>
+    pub fn new(alloc: Global, fold: &'a Fold, point: &Point) -> Result<RunMenus<'a>, AllocError>
         requires { AreWithin fold.now.program.bricks point.now }
         ensures { IfOk result (AreRunMenus fold.now point.now) }
     {
@@ -42,7 +39,7 @@ impl<'a> RunMenus<'a> {
     }
 
     /// From the menus at a point to those at another one. An error comes only where memory runs out.
-    pub(crate) fn follow(
+    pub fn follow(
         &mut self,
         alloc: Global,
         fold: &Fold,
@@ -62,13 +59,14 @@ impl<'a> RunMenus<'a> {
 
     /// The best step of `2^k` times a move, where it gains anything and the bound does not beat it. A length whose
     /// menus are not kept gets its own. An error comes only where memory runs out.
-    pub(crate) fn best_step<B: Bound>(
+    pub fn best_step<B: Bound>(
         &self,
         alloc: Global,
         fold: &Fold,
         point: &Point,
         k: u32,
         bound: &mut B,
+        moves: &mut Moves,
     ) -> Result<StepAnswer, AllocError>
         requires menus { AreRunMenus fold.now point.now self.now }
         requires sums { HasBrickSums fold.now }
@@ -76,33 +74,36 @@ impl<'a> RunMenus<'a> {
         requires length { IsLength fold.now.program k }
         ensures answer { IfOk result (IsStepAnswer fold.now point.now k (B.last bound.new)) }
         ensures kept { B.later bound.old bound.new }
+        ensures rising { moves.old ≤ moves.new }
+        ensures counted { moves.new ≤ moves.old + length fold.now.program.bricks * (length fold.now.sums * length fold.now.sums) }
     {
         let lengths = count(fold.program().widest());
         prove!(k < lengths);
-        let mut moves = Moves::new();
-        if let Some(menus) = self.menus.get(k as usize) {
-            return best_step_with(
-                alloc,
-                fold,
-                &self.targets,
-                menus,
-                point,
-                k,
-                bound,
-                &mut moves,
-            );
+        let own = self.own_menus(alloc, fold, point, k)?;
+        let menus = match &own {
+            Some(own) => own,
+            None => &self.menus[k as usize],
+        };
+        best_step_with(alloc, fold, &self.targets, menus, point, k, bound, moves)
+    }
+
+    /// Menus of a length whose menus are not kept.
+    fn own_menus(
+        &self,
+        alloc: Global,
+        fold: &Fold,
+        point: &Point,
+        k: u32,
+    ) -> Result<Option<Menus>, AllocError>
+        requires within { AreWithin fold.now.program.bricks point.now }
+        requires short { k < 64 }
+        ensures own { IfOk result (λ own. IfSome own (AreMenus fold.now point.now k)) }
+        ensures kept { IfOk result (λ own. IfNone own (k < length self.now.menus.items)) }
+    {
+        if (k as usize) < self.menus.len() {
+            return Ok(None);
         }
-        let menus = Menus::new(alloc, fold, point, k)?;
-        best_step_with(
-            alloc,
-            fold,
-            &self.targets,
-            &menus,
-            point,
-            k,
-            bound,
-            &mut moves,
-        )
+        Ok(Some(Menus::new(alloc, fold, point, k)?))
     }
 }
 

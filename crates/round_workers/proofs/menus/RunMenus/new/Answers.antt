@@ -1,5 +1,5 @@
-use Rattle.phase_run.proofs.MenuLaws.{first_more}
-use Rattle.phase_run.proofs.menus.RunMenus.new.Goals as goal
+use Rattle.round_workers.proofs.MenuLaws.{first_more}
+use Rattle.round_workers.proofs.menus.RunMenus.new.Goals as goal
 
 pub loop-k-preserved : goal.loop-k-preserved
 loop-k-preserved c =

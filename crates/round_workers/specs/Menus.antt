@@ -4,7 +4,7 @@ use Rattle.fold_theory.specs.Programs.{Bricks}
 use Rattle.run_theory.specs.Folds.{FoldValue}
 use Rattle.sieve_laws.specs.Sieve.{Menu}
 use Rattle.brick_dp.specs.Menus.{AreMenus}
-use Rattle.phase_run.specs.declared.menus.RunMenus.{RunMenus}
+use Rattle.round_workers.specs.declared.menus.RunMenus.{RunMenus}
 
 -- the targets of the sums, and the menus at a point of the first step lengths
 pub record AreRunMenus (f : FoldValue) (x : Bricks) (kept : RunMenus) : Type 0 where

@@ -1,0 +1,5 @@
+pub mod MenuLaws
+pub mod Steps
+pub mod Known
+pub mod Joining
+pub mod Finding

@@ -1,0 +1,56 @@
+use Rattle.std.proofs.Common.{ap, sym, subst, ◌∙◌, refl}
+use Rattle.round_core.specs.declared.parts.Fate.TheVariants.{Open}
+use Rattle.board_laws.specs.declared.views.View.{View}
+use Rattle.board_laws.specs.Views.{HasFate}
+use Rattle.round_workers.specs.Workers.{ceiling}
+use Rattle.round_workers.proofs.Steps.{claimed_has, tried_keeps, tried_same, tried_ceiling, ceiling_below, nearer, finished_keeps}
+use Rattle.round_workers.proofs.workers.work.Goals as goal
+
+pub tried-requires-clause-fate : goal.tried-requires-clause-fate
+tried-requires-clause-fate g c _ _ =
+    subst (λ (u : View). HasFate c.in-Some.k Open u.owned) (sym c.in-Some.ensures.claimed)
+    (claimed_has c.loop-k.worker.held.view c.in-Some.k)
+
+pub loop-k-smaller : goal.loop-k-smaller
+loop-k-smaller g c =
+    let f = c.args.task.now.fold.now in
+    let x = c.args.task.now.point.now in
+    let r = tried_ceiling f x c.in-Some.k c.loop-k.worker c.claimed.new.worker c.in_ok-worker.worker c.loop-k.invariant.2
+    c.in-Some.ensures.claimed c.in-Some.ensures.steps c.in_ok-worker.ensures in
+    nearer _ c.in-Some.k (ceiling c.loop-k.worker.held.view.owned) (ceiling c.in_ok-worker.worker.held.view.owned)
+    c.in-Some.ensures.length (ceiling_below c.in-Some.k c.loop-k.worker.held.view.owned c.in-Some.ensures.rising) r
+
+pub loop-k-preserved : goal.loop-k-preserved
+loop-k-preserved g c =
+    let f = c.args.task.now.fold.now in
+    let x = c.args.task.now.point.now in
+    let keeps = tried_keeps f x c.in-Some.k c.loop-k.worker c.claimed.new.worker c.in_ok-worker.worker c.loop-k.invariant.2
+    c.in-Some.ensures.claimed c.in-Some.ensures.steps c.in_ok-worker.ensures in (
+      c.in_ok-worker.ensures.of ∙ c.in-Some.ensures.table ∙ c.loop-k.invariant.0,
+      tried_same f x c.in-Some.k c.loop-k.worker c.claimed.new.worker c.in_ok-worker.worker c.loop-k.invariant.2
+          c.in-Some.ensures.claimed c.in-Some.ensures.steps c.in_ok-worker.ensures (λ (v : View). v.stand) (λ v fate i. refl)
+          ∙ c.loop-k.invariant.1,
+      keeps,
+      tried_same f x c.in-Some.k c.loop-k.worker c.claimed.new.worker c.in_ok-worker.worker c.loop-k.invariant.2
+          c.in-Some.ensures.claimed c.in-Some.ensures.steps c.in_ok-worker.ensures (λ (v : View). v.number) (λ v fate i. refl)
+          ∙ c.loop-k.invariant.3,
+      tried_same f x c.in-Some.k c.loop-k.worker c.claimed.new.worker c.in_ok-worker.worker c.loop-k.invariant.2
+          c.in-Some.ensures.claimed c.in-Some.ensures.steps c.in_ok-worker.ensures (λ (v : View). v.joined) (λ v fate i. refl)
+          ∙ c.loop-k.invariant.4,
+      tried_same f x c.in-Some.k c.loop-k.worker c.claimed.new.worker c.in_ok-worker.worker c.loop-k.invariant.2
+          c.in-Some.ensures.claimed c.in-Some.ensures.steps c.in_ok-worker.ensures (λ (v : View). v.made) (λ v fate i. refl)
+          ∙ c.loop-k.invariant.5,
+    )
+
+pub returns : goal.returns
+returns g c =
+    let f = c.args.task.now.fold.now in
+    let x = c.args.task.now.point.now in
+    let last = c.in_default.ensures in record {
+      of = last.table ∙ c.loop-k.invariant.0;
+      finished = ap (λ (v : View). v.stand) last.past;
+      keeps = finished_keeps f x c.loop-k.worker c.claimed.new.worker c.loop-k.invariant.2 last.past last.steps;
+      number = ap (λ (v : View). v.number) last.past ∙ c.loop-k.invariant.3;
+      joined = ap (λ (v : View). v.joined) last.past ∙ c.loop-k.invariant.4;
+      made = ap (λ (v : View). v.made) last.past ∙ c.loop-k.invariant.5;
+    }

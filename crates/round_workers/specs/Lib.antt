@@ -1,0 +1,4 @@
+pub mod Looks
+pub mod Menus
+pub mod Tasks
+pub mod Workers
