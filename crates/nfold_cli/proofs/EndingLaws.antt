@@ -67,7 +67,7 @@ form_ending (Some (PointForm prefix relations)) files e f is same =
     ending_of prefix (pointed_in prefix relations files) IsPointEnding (λ a e f is same. is ∙ sym same) e f is same
 form_ending (Some (GraverForm prefix limit)) files e f is same =
     ending_of prefix (plain_in files prefix) (IsKernelEnding limit) (λ m e f. kernel_ending limit m e f) e f is same
-form_ending (Some (SolveForm prefix options)) files e f is same =
+form_ending (Some (SolveForm prefix workers options)) files e f is same =
     ending_of prefix (program_in files prefix options.relations) (IsSolveEnding prefix options)
     (λ p e f. ending_within p (caps_of options) (solved_ending prefix options.trace p.brick.cols) e f) e f is same
 form_ending (Some (TrialForm number bricks)) files e f is same =

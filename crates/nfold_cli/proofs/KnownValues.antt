@@ -44,13 +44,13 @@ abbrev solve_and : List Word → List Word
 solve_and rest = codes "solve" ∷ codes "t" ∷ rest
 
 pub solve_without_options : form_of (solve_and []) ≡ Some
-    (SolveForm (codes "t") (record { basis = 500; sums = 5000; relations = false; trace = false }))
+    (SolveForm (codes "t") 1 (record { basis = 500; sums = 5000; relations = false; trace = false }))
 solve_without_options = refl
 
 pub solve_with_all_options :
-    form_of (solve_and (codes "--max-sums" ∷ codes "4" ∷ codes "--rel" ∷ codes "--max-basis" ∷ codes "07" ∷ codes
-    "--trace" ∷ []))
-    ≡ Some (SolveForm (codes "t") (record { basis = 7; sums = 4; relations = true; trace = true }))
+    form_of (solve_and (codes "--max-sums" ∷ codes "4" ∷ codes "--rel" ∷ codes "--workers" ∷ codes "3" ∷ codes
+    "--max-basis" ∷ codes "07" ∷ codes "--trace" ∷ []))
+    ≡ Some (SolveForm (codes "t") 3 (record { basis = 7; sums = 4; relations = true; trace = true }))
 solve_with_all_options = refl
 
 pub a_trace_is_no_number : form_of (solve_and (codes "--max-sums" ∷ codes "--trace" ∷ [])) ≡ None
@@ -113,8 +113,30 @@ check_with_relations = refl
 pub check_with_a_prefix : form_of (codes "check" ∷ codes "t" ∷ []) ≡ Some (CheckForm (codes "t") false)
 check_with_a_prefix = refl
 
-pub no_workers_yet : form_of (solve_and (codes "--workers" ∷ codes "2" ∷ [])) ≡ None
-no_workers_yet = refl
+abbrev solve_by : List Word → List Word
+solve_by rest = solve_and (codes "--workers" ∷ rest)
+
+pub most_workers : form_of (solve_by (codes "16" ∷ [])) ≡ Some
+    (SolveForm (codes "t") 16 (record { basis = 500; sums = 5000; relations = false; trace = false }))
+most_workers = refl
+
+pub no_worker : form_of (solve_by (codes "0" ∷ [])) ≡ None
+no_worker = refl
+
+pub too_many_workers : form_of (solve_by (codes "17" ∷ [])) ≡ None
+too_many_workers = refl
+
+pub workers_twice : form_of (solve_by (codes "2" ∷ codes "--workers" ∷ codes "2" ∷ [])) ≡ None
+workers_twice = refl
+
+pub workers_in_one_word : form_of (solve_and (codes "--workers=2" ∷ [])) ≡ None
+workers_in_one_word = refl
+
+pub graver_with_workers : form_of (graver_and (codes "--workers" ∷ codes "2" ∷ [])) ≡ None
+graver_with_workers = refl
+
+pub point_with_workers : form_of (point_and (codes "t" ∷ codes "--workers" ∷ codes "2" ∷ [])) ≡ None
+point_with_workers = refl
 
 pub another_case : form_of (codes "Point" ∷ codes "t" ∷ []) ≡ None
 another_case = refl

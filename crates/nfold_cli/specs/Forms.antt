@@ -21,7 +21,7 @@ IsFormEnding (Some (PointForm prefix relations)) files e =
     IsEndingOf prefix IsPointEnding (pointed_in prefix relations files) e
 IsFormEnding (Some (GraverForm prefix limit)) files e =
     IsEndingOf prefix (IsKernelEnding limit) (plain_in files prefix) e
-IsFormEnding (Some (SolveForm prefix options)) files e =
+IsFormEnding (Some (SolveForm prefix workers options)) files e =
     IsEndingOf prefix (IsSolveEnding prefix options) (program_in files prefix options.relations) e
 IsFormEnding (Some (CheckForm prefix relations)) files e =
     IsEndingOf prefix (IsCheckEnding prefix) (claimed_in prefix relations files) e
@@ -41,7 +41,7 @@ IsTrueEnd None files e = Unit {0}
 IsTrueEnd (Some (PointForm prefix relations)) files e =
     OfRead (pointed_in prefix relations files) (λ read. IsTruePoint read e)
 IsTrueEnd (Some (GraverForm prefix limit)) files e = Unit {0}
-IsTrueEnd (Some (SolveForm prefix options)) files e =
+IsTrueEnd (Some (SolveForm prefix workers options)) files e =
     OfRead (program_in files prefix options.relations) (λ p. IsTrueSolve prefix options p e)
 IsTrueEnd (Some (CheckForm prefix relations)) files e =
     OfRead (claimed_in prefix relations files) (λ read. IsTrueCheck read e)
@@ -49,5 +49,5 @@ IsTrueEnd (Some (TrialForm number bricks)) files e = IsTrueTrial number bricks e
 
 -- the file that a run of the form stores: `solve` its certificate
 abbrev pub stored_by : Option FormValue → Option Word
-stored_by (Some (SolveForm prefix options)) = Some (certificate_name prefix)
+stored_by (Some (SolveForm prefix workers options)) = Some (certificate_name prefix)
 stored_by form = None

@@ -33,7 +33,7 @@ number_within from to w =
 pub data FormValue : Type 0 where
   PointForm : Word → Bool → FormValue
   GraverForm : Word → ℕ → FormValue
-  SolveForm : Word → SolveOptions → FormValue
+  SolveForm : Word → ℕ → SolveOptions → FormValue
   CheckForm : Word → Bool → FormValue
   TrialForm : ℕ → ℕ → FormValue
 
@@ -41,9 +41,13 @@ pub data FormValue : Type 0 where
 abbrev pub form_value : Form → FormValue
 form_value (Point prefix relations) = PointForm prefix.now relations
 form_value (Graver prefix limit) = GraverForm prefix.now limit
-form_value (Solve prefix options) = SolveForm prefix.now options
+form_value (Solve prefix workers options) = SolveForm prefix.now workers options
 form_value (Check prefix relations) = CheckForm prefix.now relations
 form_value (Trial number bricks) = TrialForm number bricks
+
+-- how many workers seek the steps of a solve
+abbrev pub IsWorkerCount : ℕ → Type 0
+IsWorkerCount workers = (1 ≤ workers) × (workers ≤ 16)
 
 -- how many elements a slack basis may have
 abbrev pub IsBasisLimit : ℕ → Type 0
@@ -67,7 +71,7 @@ pub record IsTrial (number bricks : ℕ) : Type 0 where
 abbrev pub HasLimits : Form → Type 0
 HasLimits (Point prefix relations) = Unit {0}
 HasLimits (Graver prefix limit) = IsBasisLimit limit
-HasLimits (Solve prefix options) = HasSolveLimits options
+HasLimits (Solve prefix workers options) = IsWorkerCount workers × HasSolveLimits options
 HasLimits (Check prefix relations) = Unit {0}
 HasLimits (Trial number bricks) = IsTrial number bricks
 
@@ -77,6 +81,7 @@ is_word w text = pointwise nat_eq w text
 
 -- the numbers in the options are in their ranges
 pub record AreInRange (o : Options) : Type 0 where
+  pub workers : IfSome o.workers IsWorkerCount
   pub basis : IfSome o.basis IsBasisLimit
   pub sums : IfSome o.sums IsSumLimit
 
@@ -86,14 +91,16 @@ with_flag o w =
     cond (is_word w (codes "--rel") && not o.relations) (Some (record o { relations = true }))
     (cond (is_word w (codes "--trace") && not o.trace) (Some (record o { trace = true })) None)
 
--- the options with this one, a word and its value, where it is not there yet: `--max-basis` with a number of 1 to 2,000, or
--- `--max-sums` with one of 1 to 20,000
+-- the options with this one, a word and its value, where it is not there yet: `--workers` with a number of 1 to 16,
+-- `--max-basis` with one of 1 to 2,000, or `--max-sums` with one of 1 to 20,000
 abbrev pub with_number : Options → Word → Word → Option Options
 with_number o w v =
-    cond (is_word w (codes "--max-basis") && is_none o.basis)
+    cond (is_word w (codes "--workers") && is_none o.workers)
+    (option_map (λ n. record o { workers = Some n }) (number_within 1 16 v))
+    (cond (is_word w (codes "--max-basis") && is_none o.basis)
     (option_map (λ n. record o { basis = Some n }) (number_within 1 2000 v))
     (cond (is_word w (codes "--max-sums") && is_none o.sums)
-    (option_map (λ n. record o { sums = Some n }) (number_within 1 20000 v)) None)
+    (option_map (λ n. record o { sums = Some n }) (number_within 1 20000 v)) None))
 
 -- the options in these words, added to those before; each comes at most once
 abbrev pub options_in : Options → List Word → Option Options
@@ -107,15 +114,15 @@ options_in o (w ∷ v ∷ ws) =
 
 -- no option
 abbrev pub no_options : Options
-no_options = record { basis = None; sums = None; relations = false; trace = false }
+no_options = record { workers = None; basis = None; sums = None; relations = false; trace = false }
 
 -- no option but `--rel`
 abbrev pub has_relations_at_most : Options → Bool
-has_relations_at_most o = is_none o.basis && is_none o.sums && not o.trace
+has_relations_at_most o = is_none o.workers && is_none o.basis && is_none o.sums && not o.trace
 
 -- no option but `--max-basis`
 abbrev pub has_a_basis_at_most : Options → Bool
-has_a_basis_at_most o = is_none o.sums && not o.relations && not o.trace
+has_a_basis_at_most o = is_none o.workers && is_none o.sums && not o.relations && not o.trace
 
 -- what the options ask of a solve; a basis has at most 500 elements and there are at most 5,000 sums where no option says
 -- it
@@ -132,13 +139,13 @@ abbrev pub allowed : Bool → FormValue → Option FormValue
 allowed may form = cond may (Some form) None
 
 -- the form of a command with this prefix and these options: `point P [--rel]`, `graver M [--max-basis B]`,
--- `solve P [--rel] [--max-basis B] [--max-sums Q] [--trace]` and `check P [--rel]`; a basis has at most 500 elements where
--- no option says it
+-- `solve P [--workers W] [--max-basis B] [--max-sums Q] [--rel] [--trace]` and `check P [--rel]`; there is one worker, and
+-- a basis has at most 500 elements, where no option says it
 abbrev pub command_form : Word → Word → Options → Option FormValue
 command_form command prefix o =
     cond (is_word command (codes "point")) (allowed (has_relations_at_most o) (PointForm prefix o.relations))
     (cond (is_word command (codes "graver")) (allowed (has_a_basis_at_most o) (GraverForm prefix (unwrap_or o.basis 500)))
-    (cond (is_word command (codes "solve")) (Some (SolveForm prefix (of_a_solve o)))
+    (cond (is_word command (codes "solve")) (Some (SolveForm prefix (unwrap_or o.workers 1) (of_a_solve o)))
     (cond (is_word command (codes "check")) (allowed (has_relations_at_most o) (CheckForm prefix o.relations)) None)))
 
 abbrev pub form_with : Word → Word → Option Options → Option FormValue

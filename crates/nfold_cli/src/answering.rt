@@ -32,9 +32,13 @@ pub(crate) fn answer_words<R: Threads + Sync, S: Shelf, G: Gate>(
         }
         Some(Form::Point { prefix, relations }) => answer_point(alloc, shelf, prefix, relations),
         Some(Form::Graver { prefix, limit }) => answer_graver(alloc, shelf, prefix, limit),
-        Some(Form::Solve { prefix, options }) => {
-            answer_solve(rt, alloc, shelf, prefix, options, gate)
-        }
+        Some(
+            Form::Solve {
+                prefix,
+                workers,
+                options,
+            },
+        ) => answer_solve(rt, alloc, shelf, prefix, workers, options, gate),
         Some(Form::Check { prefix, relations }) => answer_check(alloc, shelf, prefix, relations),
         Some(Form::Trial { number, bricks }) => answer_trial(rt, alloc, number, bricks, gate),
     }

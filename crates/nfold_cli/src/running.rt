@@ -34,7 +34,7 @@ use std::thread::Threads;
 /// feasible point costs less; and the stored certificate is one that `check` accepts. Where `trial` does, the verdict is
 /// true of the program that it has made, and the certificate accepted.
 ///
-/// A solve has one worker as yet, so threads and the gate are only handed on.
+/// Neither the number of workers nor the gate changes what is answered, stored or written.
 pub fn run<R: Threads + Sync, S: Shelf, K: Sink, E: Sink, G: Gate>(
     rt: &R,
     alloc: Global,

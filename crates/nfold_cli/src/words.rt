@@ -14,6 +14,12 @@ const LONGEST_PREFIX: usize = 200;
 /// The number of digits of the longest number.
 const LONGEST_NUMBER: usize = 9;
 
+/// How many workers seek the steps of a solve, where no option says it.
+pub(crate) const DEFAULT_WORKERS: u32 = 1;
+
+/// The largest number of workers that an option may name.
+const MOST_WORKERS: u32 = 16;
+
 /// How many elements a slack basis may have, where no option says it.
 pub(crate) const DEFAULT_BASIS: u32 = 500;
 
@@ -49,9 +55,11 @@ pub enum Form<'a> {
         prefix: &'a str,
         limit: u32,
     },
-    /// `solve P [--rel] [--max-basis B] [--max-sums Q] [--trace]`: the outcome of a program, and its certificate.
+    /// `solve P [--workers W] [--max-basis B] [--max-sums Q] [--rel] [--trace]`: the outcome of a program, and its
+    /// certificate, by so many workers, 1 to 16; 1 where no option says it.
     Solve {
         prefix: &'a str,
+        workers: u32,
         options: SolveOptions,
     },
     /// `check P [--rel]`: whether a certificate shows what it claims of a program, or which rule it breaks.
@@ -67,7 +75,7 @@ pub enum Form<'a> {
     },
 }
 
-/// What is asked of a solve.
+/// What is asked of a solve. The number of workers is no part of it, since the outcome does not depend on it.
 #[derive(Clone, Copy, Debug, PartialEq, Eq, Drop)]
 pub struct SolveOptions {
     /// How many elements each slack basis may have: 1 to 2,000; 500 where no option says it.
@@ -83,6 +91,8 @@ pub struct SolveOptions {
 /// The options of a command.
 #[derive(Clone, Copy, Debug, PartialEq, Eq, Drop)]
 pub(crate) struct Options {
+    /// The value of `--workers`.
+    pub workers: Option<u32>,
     /// The value of `--max-basis`.
     pub basis: Option<u32>,
     /// The value of `--max-sums`.
@@ -106,6 +116,7 @@ pub fn form_of(words: &[Vec<u8>]) -> Option<Form<'_>>
     }
     let prefix = prefix(word.as_slice())?;
     let none = Options {
+        workers: None,
         basis: None,
         sums: None,
         relations: false,
@@ -143,8 +154,13 @@ fn command_form<'a>(command: &[u8], prefix: &'a str, options: Options) -> Option
         return Some(Form::Graver { prefix, limit });
     }
     if is_word(command, b"solve") {
+        let workers = options.workers.unwrap_or(DEFAULT_WORKERS);
         let options = options.of_a_solve();
-        return Some(Form::Solve { prefix, options });
+        return Some(Form::Solve {
+            prefix,
+            workers,
+            options,
+        });
     }
     if is_word(command, b"check") && options.has_relations_at_most() {
         return Some(Form::Check { prefix, relations });
@@ -157,14 +173,14 @@ impl Options {
     fn has_relations_at_most(self) -> bool
         ensures { result ≡ specs.has_relations_at_most self }
     {
-        self.basis.is_none() && self.sums.is_none() && !self.trace
+        self.workers.is_none() && self.basis.is_none() && self.sums.is_none() && !self.trace
     }
 
     /// Whether there is no option but `--max-basis`.
     fn has_a_basis_at_most(self) -> bool
         ensures { result ≡ specs.has_a_basis_at_most self }
     {
-        self.sums.is_none() && !self.relations && !self.trace
+        self.workers.is_none() && self.sums.is_none() && !self.relations && !self.trace
     }
 
     /// What the options ask of a solve.
@@ -226,6 +242,10 @@ fn with_number(options: Options, word: &[u8], value: &[u8]) -> Option<Options>
     ensures options { result ≡ specs.with_number options word.now value.now }
     ensures limits { IfSome result specs.AreInRange }
 {
+    if is_word(word, b"--workers") && options.workers.is_none() {
+        let workers = Some(number_within(value, 1, MOST_WORKERS)?);
+        return Some(Options { workers, ..options });
+    }
     if is_word(word, b"--max-basis") && options.basis.is_none() {
         let basis = Some(number_within(value, 1, LARGEST_BASIS)?);
         return Some(Options { basis, ..options });
@@ -349,6 +369,7 @@ pub(crate) mod tests {
         expect_none(&rt, "point --rel t")?;
         expect_none(&rt, "point t --max-basis 5")?;
         expect_none(&rt, "point t --max-sums 5")?;
+        expect_none(&rt, "point t --workers 2")?;
         expect_none(&rt, "point t --trace")
     }
 
@@ -372,6 +393,7 @@ pub(crate) mod tests {
         expect_form(&rt, "check a/t --rel", Some(form))?;
         expect_none(&rt, "check t --rel --rel")?;
         expect_none(&rt, "check t --max-basis 5")?;
+        expect_none(&rt, "check t --workers 2")?;
         expect_none(&rt, "check t t")
     }
 
@@ -388,6 +410,7 @@ pub(crate) mod tests {
         expect_none(&rt, "graver m --max-basis 5 --max-basis 5")?;
         expect_none(&rt, "graver m --rel")?;
         expect_none(&rt, "graver m --max-sums 5")?;
+        expect_none(&rt, "graver m --workers 2")?;
         expect_none(&rt, "graver m --trace")?;
         expect_none(&rt, "graver --max-basis 5")
     }
@@ -403,7 +426,7 @@ pub(crate) mod tests {
         expect_none(&rt, "graver m --max-basis")
     }
 
-    /// The form `solve` with these options.
+    /// The form `solve` with one worker and these options.
     fn solve(basis: u32, sums: u32, relations: bool, trace: bool) -> Option<Form<'static>> {
         let options = SolveOptions {
             basis,
@@ -413,8 +436,36 @@ pub(crate) mod tests {
         };
         Some(Form::Solve {
             prefix: "t",
+            workers: 1,
             options,
         })
+    }
+
+    /// The form `solve` with so many workers, and no other option.
+    fn solve_by(workers: u32) -> Option<Form<'static>> {
+        let options = SolveOptions {
+            basis: 500,
+            sums: 5_000,
+            relations: false,
+            trace: false,
+        };
+        Some(Form::Solve {
+            prefix: "t",
+            workers,
+            options,
+        })
+    }
+
+    #[test]
+    fn a_solve_has_1_to_16_workers(rt: HostRuntime) -> Result<(), Fail> {
+        expect_form(&rt, "solve t --workers 1", solve_by(1))?;
+        expect_form(&rt, "solve t --workers 016", solve_by(16))?;
+        expect_none(&rt, "solve t --workers 0")?;
+        expect_none(&rt, "solve t --workers 17")?;
+        expect_none(&rt, "solve t --workers 2 --workers 2")?;
+        expect_none(&rt, "solve t --workers=2")?;
+        expect_none(&rt, "solve t --workers")?;
+        expect_none(&rt, "solve --workers 2 t")
     }
 
     #[test]
@@ -440,7 +491,6 @@ pub(crate) mod tests {
         expect_none(&rt, "solve t --max-sums --trace")?;
         expect_none(&rt, "solve t --trace --trace")?;
         expect_none(&rt, "solve t --max-sums 4 --max-sums 4")?;
-        expect_none(&rt, "solve t --workers 2")?;
         expect_none(&rt, "solve --trace t")
     }
 

@@ -1,9 +1,10 @@
-//! `solve P [--rel] [--max-basis B] [--max-sums Q] [--trace]`: the outcome of a program, and its certificate.
+//! `solve P [--workers W] [--max-basis B] [--max-sums Q] [--rel] [--trace]`: the outcome of a program, and its
+//! certificate.
 
 ghost use Rattle.std.specs.Prelude.{◌≡◌, ◌≢◌, IfOk, Some};
 ghost use Rattle.fold_shelf.specs.Outside.{OnlyReads};
 ghost use Rattle.run_theory.specs.declared.SolveFault.TheVariants.{Memory};
-ghost use Rattle.nfold_cli.specs.Words.{SolveForm, HasSolveLimits};
+ghost use Rattle.nfold_cli.specs.Words.{SolveForm, HasSolveLimits, IsWorkerCount};
 ghost use Rattle.nfold_cli.specs.SolveCommand.{limit_ending, solved_ending, IsSolveEnding, IsTrueSolve};
 ghost use Rattle.nfold_cli.specs.SolvedTexts.{HasShortSteps, solved_outcome};
 ghost use Rattle.nfold_cli.specs.Answers.{IsAnswer};
@@ -28,15 +29,17 @@ pub(crate) fn answer_solve<R: Threads + Sync, S: Shelf, G: Gate>(
     alloc: Global,
     shelf: &mut S,
     prefix: &str,
+    workers: u32,
     options: SolveOptions,
     gate: &G,
 ) -> Result<Answer, AllocError>
-    requires { HasSolveLimits options }
-    ensures answer { IfOk result (IsAnswer (Some (SolveForm prefix.now options)) (S.seen shelf.old) (S.seen shelf.new)) }
+    requires workers { IsWorkerCount workers }
+    requires limits { HasSolveLimits options }
+    ensures answer { IfOk result (IsAnswer (Some (SolveForm prefix.now workers options)) (S.seen shelf.old) (S.seen shelf.new)) }
     ensures reads { OnlyReads (S.seen shelf.old) (S.seen shelf.new) }
 {
     match read_program(alloc, shelf, prefix, options.relations) {
-        Ok(program) => outcome_of(rt, alloc, prefix, &program, options, gate),
+        Ok(program) => outcome_of(rt, alloc, prefix, &program, workers, options, gate),
         Err(fault) => refusal(alloc, prefix, fault),
     }
 }
@@ -47,15 +50,17 @@ fn outcome_of<R: Threads + Sync, G: Gate>(
     alloc: Global,
     prefix: &str,
     program: &Program,
+    workers: u32,
     options: SolveOptions,
     gate: &G,
 ) -> Result<Answer, AllocError>
-    requires { HasSolveLimits options }
+    requires workers { IsWorkerCount workers }
+    requires limits { HasSolveLimits options }
     ensures ends { IfOk result (IsSolveEnding prefix.now options program.now) }
     ensures holds { IfOk result (IsTrueSolve prefix.now options program.now) }
 {
     let settings = Settings {
-        workers: 1,
+        workers,
         max_basis: options.basis,
         max_sums: options.sums,
     };

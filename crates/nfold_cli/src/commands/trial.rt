@@ -10,7 +10,7 @@ use crate::answer::Answer;
 use crate::commands::solve::limit_answer;
 use crate::run_texts::trial_text;
 use crate::status::Status;
-use crate::words::{DEFAULT_BASIS, DEFAULT_SUMS};
+use crate::words::{DEFAULT_BASIS, DEFAULT_SUMS, DEFAULT_WORKERS};
 use augment_run::{RunRecord, Settings, Solved, solve};
 use cert_checker::check;
 use certificate::{Certificate, parse, print};
@@ -49,7 +49,7 @@ fn outcome_of<R: Threads + Sync, G: Gate>(
     ensures holds { IfOk result (IsTrueEnding program.now (specs.tried_ending number bricks program.now)) }
 {
     let settings = Settings {
-        workers: 1,
+        workers: DEFAULT_WORKERS,
         max_basis: DEFAULT_BASIS,
         max_sums: DEFAULT_SUMS,
     };

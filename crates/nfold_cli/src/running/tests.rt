@@ -1,6 +1,7 @@
 //! The top call over files in memory.
 
 mod solving;
+mod workers;
 
 use super::*;
 use crate::words::tests::words_of;
@@ -278,7 +279,11 @@ fn words_that_are_no_form_give_the_usage(rt: HostRuntime) -> Result<(), Fail> {
     expect_usage(&rt, "point t --rel --rel")?;
     expect_usage(&rt, "graver m --rel")?;
     expect_usage(&rt, "solve")?;
+    expect_usage(&rt, "solve t --workers 0")?;
+    expect_usage(&rt, "solve t --workers 17")?;
+    expect_usage(&rt, "solve t --workers 2 --workers 2")?;
     expect_usage(&rt, "solve t --workers=2")?;
+    expect_usage(&rt, "solve -t")?;
     expect_usage(&rt, "check t --max-basis 5")?;
     expect_usage(&rt, "trial 1")
 }

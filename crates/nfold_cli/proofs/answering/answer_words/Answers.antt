@@ -22,7 +22,8 @@ returns-in-Some-Check-clause-answer g c =
 pub returns-in-Some-Solve-clause-answer : goal.returns-in-Some-Solve-clause-answer
 returns-in-Some-Solve-clause-answer g c =
     by_form c.answer_solve.result (g.S.Shelf.seen c.args.shelf.now) _ _
-    (SolveForm c.in-Some-Solve.prefix.now c.in-Some-Solve.options) (search rules) c.answer_solve.ensures.answer
+    (SolveForm c.in-Some-Solve.prefix.now c.in-Some-Solve.workers c.in-Some-Solve.options) (search rules)
+    c.answer_solve.ensures.answer
 
 pub returns-in-Some-Trial-clause-answer : goal.returns-in-Some-Trial-clause-answer
 returns-in-Some-Trial-clause-answer g c =

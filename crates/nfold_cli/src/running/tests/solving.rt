@@ -41,7 +41,7 @@ const BRICK_CERTIFICATE: &str = concat!(
 
 /// Solves the worked program with other texts in some of its files, tests the text and the certificate that is stored,
 /// and then what `check` says of it.
-fn expect_solved(
+pub(super) fn expect_solved(
     rt: &(impl Abort + Threads + Alloc<A = Global> + Sync),
     line: &str,
     changes: &[(&str, &str)],
@@ -74,6 +74,18 @@ fn solve_prints_each_step_and_stores_the_certificate(rt: HostRuntime) -> Result<
     expect_solved(
         &rt,
         "solve t --trace",
+        &[],
+        TRACED,
+        CERTIFICATE,
+        "yes optimal cost 5\n",
+    )
+}
+
+#[test]
+fn each_worker_makes_the_same_steps(rt: HostRuntime) -> Result<(), Fail> {
+    expect_solved(
+        &rt,
+        "solve t --workers 3 --trace",
         &[],
         TRACED,
         CERTIFICATE,

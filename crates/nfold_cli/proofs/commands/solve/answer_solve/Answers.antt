@@ -10,7 +10,7 @@ pub returns-in-Ok-clause-answer : goal.returns-in-Ok-clause-answer
 returns-in-Ok-clause-answer g c =
     let prefix = c.args.prefix.now in
     let options = c.args.options in
-    answer_made (SolveForm prefix options) prefix (λ fs. program_in fs prefix options.relations)
+    answer_made (SolveForm prefix c.args.workers options) prefix (λ fs. program_in fs prefix options.relations)
     (IsSolveEnding prefix options) (IsTrueSolve prefix options) (λ fs e is. is)
     (λ fs p e there holds. (p, there, holds)) (g.S.Shelf.seen c.args.shelf.now)
     (g.S.Shelf.seen c.read_program.new.shelf) c.outcome_of.result c.in-Ok.program c.in-Ok.ensures.program
@@ -20,7 +20,7 @@ pub returns-in-Err-clause-answer : goal.returns-in-Err-clause-answer
 returns-in-Err-clause-answer g c =
     let prefix = c.args.prefix.now in
     let options = c.args.options in
-    answer_refused (SolveForm prefix options) prefix (λ fs. program_in fs prefix options.relations)
+    answer_refused (SolveForm prefix c.args.workers options) prefix (λ fs. program_in fs prefix options.relations)
     (IsSolveEnding prefix options) (IsTrueSolve prefix options) (λ fs e is. is)
     (λ fs p e there holds. (p, there, holds)) (g.S.Shelf.seen c.args.shelf.now)
     (g.S.Shelf.seen c.read_program.new.shelf) c.refusal.result c.in-Err.fault c.refusal.ensures
