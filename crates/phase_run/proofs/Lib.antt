@@ -1,5 +1,4 @@
 pub mod FactorLaws
 pub mod PointLaws
 pub mod StepLaws
-pub mod RoundLaws
 pub mod RunLaws

@@ -10,11 +10,10 @@ ghost use Rattle.run_theory.specs.Folds.{HasBrickSums};
 use crate::factor::bound_number;
 use crate::points::{cost_in_phase, stepped};
 use crate::records::{End, RunRecord};
-use crate::rounds::rule_step;
 use brick_dp::Fold;
 use fold_program::Point;
 use fold_shelf::Gate;
-use round_workers::RunMenus;
+use round_workers::{RunMenus, Task, round};
 use std::alloc::{AllocError, Global};
 use std::thread::Threads;
 
@@ -23,19 +22,20 @@ use std::thread::Threads;
 /// The fold's sums are the brick sums of its program and phase; the point is within the bounds and meets its brick
 /// rows, in phase `Closed` the linking rows too. Each step lowers the phase cost, so the run ends; it makes at most as
 /// many steps as the bound number times the binary digits of the whole gain. `AllocError` comes only where memory runs
-/// out. The steps do not depend on the number of workers; as yet all of them are sought by the caller's thread.
+/// out. Each step is sought by so many workers, 1 to 16, who pass the gate; neither their number nor the gate changes
+/// the steps.
 pub fn run<R: Threads + Sync, G: Gate>(
-    _rt: &R,
+    rt: &R,
     alloc: Global,
     fold: &Fold,
     point: Point,
-    _workers: u32,
-    _gate: &G,
+    workers: u32,
+    gate: &G,
 ) -> Result<End, AllocError>
     requires sums { HasBrickSums fold.now }
     requires start { IsStart fold.now.program fold.now.phase point }
-    requires least { 1 ≤ _workers }
-    requires most { _workers ≤ 16 }
+    requires least { 1 ≤ workers }
+    requires most { workers ≤ 16 }
     ensures run { IfOk result (λ e. IsRecorded fold.now.program fold.now.phase
         (vectors fold.now.sums) point e.made e.point) }
     ensures few { IfOk result (λ e. length e.made.steps ≤ e.made.factor * binary_digits e.made.gain) }
@@ -46,7 +46,15 @@ pub fn run<R: Threads + Sync, G: Gate>(
     let mut point = point;
     let mut menus = RunMenus::new(alloc, fold, &point)?;
     let mut steps = Vec::new(alloc);
-    while let Some(step) = rule_step(alloc, fold, &menus, &point)? {
+    loop {
+        let task = Task {
+            fold: &*fold,
+            point: &point,
+            menus: &menus,
+        };
+        let Some(step) = round(rt, alloc, &task, workers, gate)? else {
+            break;
+        };
         let next = stepped(alloc, fold, &point, &step)?;
         after = cost_in_phase(fold, &next);
         menus.follow(alloc, fold, &point, &next)?;
