@@ -88,7 +88,7 @@ solve_is_plain prefix options p e ends =
 pub trial_is_plain : (number bricks : ℕ) (e : Ending) → IsTrialEnding number bricks e → IsPlainEnding None e
 trial_is_plain number bricks e ends =
     within_is_plain None (transport number bricks) trial_caps (tried_ending number bricks (transport number bricks))
-    (λ c o. (tt, tt)) e ends
+    (λ c o. (tt, tt)) e (inr ends)
 
 -- ---- a trial reads nothing
 

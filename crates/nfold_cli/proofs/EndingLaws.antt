@@ -71,7 +71,7 @@ form_ending (Some (SolveForm prefix workers options)) files e f is same =
     ending_of prefix (program_in files prefix options.relations) (IsSolveEnding prefix options)
     (λ p e f. ending_within p (caps_of options) (solved_ending prefix options.trace p.brick.cols) e f) e f is same
 form_ending (Some (TrialForm number bricks)) files e f is same =
-    let p = transport number bricks in ending_within p trial_caps (tried_ending number bricks p) e f is same
+    let p = transport number bricks in ending_within p trial_caps (tried_ending number bricks p) e f (inr is) (inr same)
 form_ending (Some (CheckForm prefix relations)) files e f is same =
     ending_of prefix (claimed_in prefix relations files) (IsCheckEnding prefix) (λ a e f is same. is ∙ sym same) e f is
     same

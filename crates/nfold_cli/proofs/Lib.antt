@@ -7,6 +7,7 @@ pub mod EndingLaws
 pub mod TraceLaws
 pub mod ShortLaws
 pub mod SolvedLaws
+pub mod TrialLaws
 pub mod AnswerLaws
 pub mod ReadLaws
 pub mod CommandLaws

@@ -1,5 +1,4 @@
--- What was solved is the outcome of the program, with its certificate; and what is made of it is an ending of `solve` or
--- `trial`.
+-- What was solved is the outcome of the program, with its certificate; and what is made of it is an ending of `solve`.
 use Rattle.std.proofs.Common.{◌≡◌, ◌≢◌, ℕ, ◌^◌, ◌≤◌, List, Option, All, Result, Ok, Err, IfOk, refl, ap, sym, subst, ◌∙◌, inl, inr}
 use Rattle.fold_theory.specs.declared.Verdict.{Verdict}
 use Rattle.fold_theory.specs.Programs.{Program, Bricks, widest}
@@ -17,7 +16,6 @@ use Rattle.nfold_cli.specs.Words.{Word}
 use Rattle.nfold_cli.specs.Endings.{Ending}
 use Rattle.nfold_cli.specs.SolvedTexts.{AreShort, IsShortRun, HasShortSteps, solved_outcome}
 use Rattle.nfold_cli.specs.SolveCommand.{caps_of, limit_ending, solved_ending, IsEndingWithin, IsSolveEnding, IsTrueEnding, IsTrueSolve}
-use Rattle.nfold_cli.specs.TrialCommand.{trial_caps, tried_ending}
 use Rattle.nfold_cli.proofs.ShortLaws.{outcome_short}
 
 abbrev outcome_with : Verdict → Bricks → List (List BrickMove) → Option RunRecord → Option RunRecord → Outcome
@@ -90,7 +88,7 @@ module _ (p : Program) (caps : Caps) (v : SolvedValue) (solved : IsSolved p caps
       }
 
 -- a limit that is passed
-limit_passed : (p : Program) (caps : Caps) (f : SolveFault) → f ≢ fault.Memory → IsSolveFault p caps f → IsLimit p caps f
+pub limit_passed : (p : Program) (caps : Caps) (f : SolveFault) → f ≢ fault.Memory → IsSolveFault p caps f → IsLimit p caps f
 limit_passed p caps fault.BrickBasis found passed = passed
 limit_passed p caps (fault.LinkEntry row col) found passed = passed
 limit_passed p caps fault.LinkBasis found passed = passed
@@ -126,15 +124,6 @@ solve_found r p prefix options v solved made =
     (λ e is. found p (caps_of options) v solved ending_of e
     (is ∙ ap (λ t. solved_ending prefix options.trace t v.certificate (solved_outcome v))
     (columns_are p (caps_of options) v solved))) made
-
-pub tried_found : {E : Type 0} (r : Result Ending E) (number bricks : ℕ) (p : Program) (v : SolvedValue)
-    → IsSolved p trial_caps v
-    → IfOk r (λ e. e ≡ tried_ending number bricks p v.certificate (solved_outcome v))
-    → IfOk r (IsEndingWithin p trial_caps (tried_ending number bricks p))
-    × IfOk r (IsTrueEnding p (tried_ending number bricks p))
-tried_found r number bricks p v solved made =
-    all_found r p trial_caps (tried_ending number bricks p) _
-    (λ e is. found p trial_caps v solved (tried_ending number bricks p) e is) made
 
 pub limit_found : {E : Type 0} (r : Result Ending E) (p : Program) (caps : Caps)
     (ending_of : Certificate → Outcome → Ending) (f : SolveFault)

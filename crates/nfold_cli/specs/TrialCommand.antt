@@ -1,5 +1,5 @@
 -- `trial NUMBER N`: the outcome of a transport program, and what the checker says of its certificate.
-use Rattle.std.specs.Prelude.{ℕ, ◌+◌, length, Option, Some, None}
+use Rattle.std.specs.Prelude.{◌≡◌, ℕ, ◌+◌, length, Option, Some, None}
 use Rattle.fold_theory.specs.Programs.{Program}
 use Rattle.run_theory.specs.Certificates.{Certificate}
 use Rattle.run_theory.specs.Outcomes.{Outcome, RunRecord}
@@ -9,7 +9,7 @@ use Rattle.fold_gen.specs.Transports.{transport}
 use Rattle.nfold_cli.specs.declared.status.Status.TheVariants as status
 use Rattle.nfold_cli.specs.RunTexts.{trial_text}
 use Rattle.nfold_cli.specs.Endings.{Ending, ending}
-use Rattle.nfold_cli.specs.SolveCommand.{IsEndingWithin, IsTrueEnding}
+use Rattle.nfold_cli.specs.SolveCommand.{IsReached, IsTrueEnding}
 
 -- the limits of a trial
 abbrev pub trial_caps : Caps
@@ -29,10 +29,11 @@ abbrev pub tried_ending : ℕ → ℕ → Program → Certificate → Outcome �
 tried_ending number bricks p c o =
     ending status.Done (trial_text number bricks o.verdict (steps_made o.counted o.closed) (checked p c))
 
--- the limit of the program that is the first to be passed, or else the line on its outcome and its certificate
+-- the line on the outcome of the program and its certificate, all of it reached within the limits: none is passed
 abbrev pub IsTrialEnding : ℕ → ℕ → Ending → Type 0
-IsTrialEnding number bricks =
-    IsEndingWithin (transport number bricks) trial_caps (tried_ending number bricks (transport number bricks))
+IsTrialEnding number bricks e =
+    (o : Outcome) × (c : Certificate) × IsReached (transport number bricks) trial_caps o c
+    × (e ≡ tried_ending number bricks (transport number bricks) c o)
 
 -- the line is on an outcome whose verdict is true of the program, and whose certificate is accepted
 abbrev pub IsTrueTrial : ℕ → ℕ → Ending → Type 0

@@ -23,10 +23,10 @@ use std::thread::Threads;
 /// before the first byte on `out`.
 ///
 /// `Usage` comes exactly where the words are no form, `Input` where a file is refused, in the order in which files are
-/// read, and `Limit` where the slack basis of `graver` passes its limit, or a solve passes one; `No` where the point is
-/// broken, or the certificate breaks a rule. `ReadFault` comes only where a file is missing or the shelf has counted a
-/// fault in this call, `WriteFault` only where `out` has, or the shelf on storing, and `Memory` may come at any time. A
-/// fault of `err` changes no answer.
+/// read, and `Limit` where the slack basis of `graver` passes its limit, or a solve passes one, while a trial passes
+/// none; `No` where the point is broken, or the certificate breaks a rule. `ReadFault` comes only where a file is missing
+/// or the shelf has counted a fault in this call, `WriteFault` only where `out` has, or the shelf on storing, and
+/// `Memory` may come at any time. A fault of `err` changes no answer.
 ///
 /// What a text on `out` says is true. Where `point` ends with `Done`, the point is feasible and has the printed cost,
 /// and where with `No`, it is not feasible. Where `check` ends with `Done`, the printed verdict is true of the program.

@@ -3,15 +3,14 @@
 ghost use Rattle.std.specs.Prelude.{◌≡◌, ◌^◌, ◌<◌, ◌≤◌, IfOk};
 ghost use Rattle.nfold_cli.specs.Words.{IsTrial};
 ghost use Rattle.nfold_cli.specs.SolvedTexts.{solved_outcome};
-ghost use Rattle.nfold_cli.specs.SolveCommand.{IsEndingWithin, IsTrueEnding};
+ghost use Rattle.fold_gen.specs.Transports as transports;
 ghost use Rattle.nfold_cli.specs.TrialCommand as specs;
 
 use crate::answer::Answer;
-use crate::commands::solve::limit_answer;
 use crate::run_texts::trial_text;
 use crate::status::Status;
 use crate::words::{DEFAULT_BASIS, DEFAULT_SUMS, DEFAULT_WORKERS};
-use augment_run::{RunRecord, Settings, Solved, solve};
+use augment_run::{RunRecord, Settings, SolveFault, Solved, solve};
 use cert_checker::check;
 use certificate::{Certificate, parse, print};
 use fold_gen::transport;
@@ -36,7 +35,7 @@ pub(crate) fn answer_trial<R: Threads + Sync, G: Gate>(
     outcome_of(rt, alloc, number, bricks, &program, gate)
 }
 
-/// The outcome of the program of a trial, or the limit that is passed.
+/// The outcome of the program of a trial, which passes no limit.
 fn outcome_of<R: Threads + Sync, G: Gate>(
     rt: &R,
     alloc: Global,
@@ -45,8 +44,10 @@ fn outcome_of<R: Threads + Sync, G: Gate>(
     program: &Program,
     gate: &G,
 ) -> Result<Answer, AllocError>
-    ensures ends { IfOk result (IsEndingWithin program.now specs.trial_caps (specs.tried_ending number bricks program.now)) }
-    ensures holds { IfOk result (IsTrueEnding program.now (specs.tried_ending number bricks program.now)) }
+    requires made { program.now ≡ transports.transport number bricks }
+    requires few { bricks ≤ 10000 }
+    ensures ends { IfOk result (specs.IsTrialEnding number bricks) }
+    ensures holds { IfOk result (specs.IsTrueTrial number bricks) }
 {
     let settings = Settings {
         workers: DEFAULT_WORKERS,
@@ -55,7 +56,11 @@ fn outcome_of<R: Threads + Sync, G: Gate>(
     };
     match solve(rt, alloc, program, settings, gate) {
         Ok(solved) => tried(alloc, number, bricks, program, &solved),
-        Err(fault) => limit_answer(alloc, fault),
+        Err(fault) => {
+            // the matrices of all these programs are the same, with few elements and few sums
+            prove!(matches!(fault, SolveFault::Memory));
+            Err(AllocError)
+        }
     }
 }
 

@@ -1,5 +1,6 @@
 //! The top call over files in memory.
 
+mod hostile;
 mod solving;
 mod workers;
 
@@ -9,6 +10,10 @@ use fold_shelf::{MemFile, MemShelf, MemSink, OpenGate, SteadyShelf, SteadySink};
 use std::alloc::AllocError;
 use std::process::Abort;
 use std::test::Fail;
+
+/// The certificate that a first brick cannot meet its row.
+const STORED: &str =
+    "nfold-certificate 1\nclaim infeasible-brick 1\npoint\n1 2\n4 4\nbricks\n3 3\n0 1 1\n1 -1 0\n1 0 1\nend\n";
 
 /// A program of two bricks with relations, a point of it, and a certificate that its first brick cannot meet its row.
 const FILES: [(&str, &str); 9] = [
@@ -20,10 +25,7 @@ const FILES: [(&str, &str); 9] = [
     ("t.rel", "1 1\n=\n"),
     ("t.cost", "2 2\nq 1 0 0\nq 0 0 0\nq 1 0 0\nq 0 0 0\n"),
     ("t.pt", "2 2\n1 3\n2 2\n"),
-    (
-        "t.cert",
-        "nfold-certificate 1\nclaim infeasible-brick 1\npoint\n1 2\n4 4\nbricks\n3 3\n0 1 1\n1 -1 0\n1 0 1\nend\n",
-    ),
+    ("t.cert", STORED),
 ];
 
 /// The files with other texts in some of them, and without those whose other text is empty.

@@ -18,7 +18,7 @@ const TRACED: &str = concat!(
 );
 
 /// And its certificate.
-const CERTIFICATE: &str = concat!(
+pub(super) const CERTIFICATE: &str = concat!(
     "nfold-certificate 1\nclaim optimal\npoint\n2 2\n1 3\n2 2\n",
     "bricks\n3 3\n0 1 1\n1 -1 0\n1 0 1\nlinks\n1 2\n1 1\nbound 2\n",
     "sums\n5 3\n2 -2 2\n1 -1 1\n0 0 0\n1 1 -1\n2 2 -2\n",
@@ -162,6 +162,24 @@ fn a_long_way_is_made_in_one_step(rt: HostRuntime) -> Result<(), Fail> {
         "closed length 1099511627776 gain 1208925819614629174706176 at 1 1 -1\n",
         "closed made 1 factor 4 digits 81\n",
         "optimal\ncost -1208925819614629174706176\n1 2\n1099511627776 -1099511627776\n",
+    );
+    expect(&rt, "solve t --trace", &changes, Status::Done, text, "")
+}
+
+// The bounds are as far apart as any may be: there are 64 lengths.
+#[test]
+fn the_widest_bounds_are_passed_in_one_step(rt: HostRuntime) -> Result<(), Fail> {
+    let changes = [
+        ("t.link.mat", "0 2\n"),
+        ("t.lb", "1 2\n-4611686018427387904 -4611686018427387904\n"),
+        ("t.ub", "1 2\n4611686018427387904 4611686018427387904\n"),
+        ("t.rhs", "1 1\n0\n"),
+        ("t.cost", "1 2\nq 0 1 0\nq 0 0 0\n"),
+    ];
+    let text = concat!(
+        "closed length 4611686018427387904 gain 4611686018427387904 at 1 -1 1\n",
+        "closed made 1 factor 4 digits 63\n",
+        "optimal\ncost -4611686018427387904\n1 2\n-4611686018427387904 4611686018427387904\n",
     );
     expect(&rt, "solve t --trace", &changes, Status::Done, text, "")
 }
