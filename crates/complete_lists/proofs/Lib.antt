@@ -2,3 +2,4 @@ pub mod ScanLaws
 pub mod ElementLaws
 pub mod ClashLaws
 pub mod CriterionLaws
+pub mod RankLaws

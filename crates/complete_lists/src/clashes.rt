@@ -3,13 +3,16 @@
 
 ghost use Rattle.std.specs.Prelude.{◌≡◌, ◌≤◌, ◌<◌, ◌+◌, ◌||◌, length, drop, take, All, IfOk, IfSome, not, neg_ℤ};
 ghost use Rattle.std.specs.List.{list_all, list_any};
+ghost use Rattle.std.specs.List.Sorted.{IsPermutation};
 ghost use Rattle.lattice_theory.specs.Vectors.{add, is_between};
 ghost use Rattle.lattice_theory.specs.Vectors as vector;
 ghost use Rattle.lattice_theory.specs.BasisLimits.{IsNarrow};
 ghost use Rattle.lattice_laws.proofs.Signs.{agrees};
 ghost use Rattle.criterion_laws.specs.Prefixes.{is_below_in, pair_settles};
 ghost use Rattle.criterion_laws.specs.Prefixes as prefixes;
+ghost use Rattle.complete_lists.specs.Ranks.{rows_in};
 
+use crate::ranked::{Ranked, by_norm};
 use int_vectors::conforms;
 use mat_files::Matrix;
 use std::alloc::{AllocError, Global};
@@ -19,49 +22,71 @@ pub fn clashes_settle(alloc: Global, basis: &Matrix, cols: u32) -> Result<bool, 
     requires { All IsNarrow basis.now.rows }
     ensures { IfOk result (λ b. b ≡ prefixes.clashes_settle cols basis.now.rows basis.now.rows) }
 {
+    let settlers = settlers_of(alloc, basis, cols)?;
     for row in 0..basis.rows() {
-        if !row_settles(alloc, basis, cols, basis.row(row + 1), row + 1)? {
+        if !row_settles(alloc, &settlers, basis, basis.row(row + 1), row + 1)? {
             return Ok(false);
         }
     }
     Ok(true)
 }
 
+/// What settles a clash: a row, looked for in the order of norms, where it is behind the first `cols` entries.
+#[derive(Drop)]
+struct Settlers {
+    cols: u32,
+    ranked: Vec<Ranked>,
+}
+
+/// The rows of the list.
+fn settlers_of(alloc: Global, basis: &Matrix, cols: u32) -> Result<Settlers, AllocError>
+    ensures cols { IfOk result (λ s. s.cols ≡ cols) }
+    ensures rows { IfOk result (λ s. IsPermutation basis.now.rows (rows_in s.ranked.items)) }
+    ensures widths { IfOk result (λ s. All (λ v. length v ≡ basis.now.cols) (rows_in s.ranked.items)) }
+{
+    Ok(Settlers {
+        cols,
+        ranked: by_norm(alloc, basis)?,
+    })
+}
+
 /// Whether it is for `f` and each row from a place on, counted from 0.
 fn row_settles(
     alloc: Global,
+    settlers: &Settlers,
     basis: &Matrix,
-    cols: u32,
     f: &[i64],
     from: u32,
 ) -> Result<bool, AllocError>
     requires rows { All IsNarrow basis.now.rows }
     requires narrow { IsNarrow f.now }
     requires width { length f.now ≡ basis.now.cols }
-    ensures { IfOk result (λ b. b ≡ list_all (pair_settles cols basis.now.rows f.now) (drop from basis.now.rows)) }
+    requires widths { All (λ v. length v ≡ basis.now.cols) (rows_in settlers.now.ranked.items) }
+    ensures { IfOk result (λ b. b ≡ list_all (pair_settles settlers.now.cols (rows_in settlers.now.ranked.items) f.now) (drop from basis.now.rows)) }
 {
     let turned = opposite(alloc, f)?;
-    if !signed_settles(alloc, basis, cols, f, from)? {
+    if !signed_settles(alloc, settlers, basis, f, from)? {
         return Ok(false);
     }
-    signed_settles(alloc, basis, cols, &turned, from)
+    signed_settles(alloc, settlers, basis, &turned, from)
 }
 
 /// Whether it is for `f` and each row from a place on as it stands.
 fn signed_settles(
     alloc: Global,
+    settlers: &Settlers,
     basis: &Matrix,
-    cols: u32,
     f: &[i64],
     from: u32,
 ) -> Result<bool, AllocError>
     requires rows { All IsNarrow basis.now.rows }
     requires narrow { IsNarrow f.now }
     requires width { length f.now ≡ basis.now.cols }
-    ensures { IfOk result (λ b. b ≡ list_all (prefixes.clash_settles cols basis.now.rows f.now) (drop from basis.now.rows)) }
+    requires widths { All (λ v. length v ≡ basis.now.cols) (rows_in settlers.now.ranked.items) }
+    ensures { IfOk result (λ b. b ≡ list_all (prefixes.clash_settles settlers.now.cols (rows_in settlers.now.ranked.items) f.now) (drop from basis.now.rows)) }
 {
     for row in from..basis.rows() {
-        if !clash_settles(alloc, basis, cols, f, basis.row(row + 1))? {
+        if !clash_settles(alloc, settlers, f, basis.row(row + 1))? {
             return Ok(false);
         }
     }
@@ -71,25 +96,24 @@ fn signed_settles(
 /// Whether what the two clash in is settled.
 fn clash_settles(
     alloc: Global,
-    basis: &Matrix,
-    cols: u32,
+    settlers: &Settlers,
     f: &[i64],
     g: &[i64],
 ) -> Result<bool, AllocError>
     requires narrow { IsNarrow f.now }
     requires narrower { IsNarrow g.now }
-    requires width { length f.now ≡ basis.now.cols }
-    requires same { length g.now ≡ basis.now.cols }
-    ensures { IfOk result (λ b. b ≡ prefixes.clash_settles cols basis.now.rows f.now g.now) }
+    requires same { length f.now ≡ length g.now }
+    requires widths { All (λ v. length v ≡ length g.now) (rows_in settlers.now.ranked.items) }
+    ensures { IfOk result (λ b. b ≡ prefixes.clash_settles settlers.now.cols (rows_in settlers.now.ranked.items) f.now g.now) }
 {
     let Some(at) = first_clash(f, g) else {
         return Ok(true);
     };
-    if at < cols as usize {
+    if at < settlers.cols as usize {
         return Ok(true);
     }
     let sum = first_sums(alloc, f, g, at + 1)?;
-    Ok(has_below(basis, &sum))
+    Ok(has_below(&settlers.ranked, &sum))
 }
 
 /// The first place, from 0, where the two have entries of opposite signs.
@@ -129,12 +153,12 @@ fn first_sums(alloc: Global, f: &[i64], g: &[i64], entries: usize) -> Result<Vec
 }
 
 /// Whether the first entries of some row, with either sign, are conformally below `z`.
-fn has_below(basis: &Matrix, z: &[i64]) -> bool
-    requires { length z.now ≤ basis.now.cols }
-    ensures { result ≡ list_any (is_below_in (length z.now) z.now) basis.now.rows }
+fn has_below(ranked: &[Ranked], z: &[i64]) -> bool
+    requires { All (λ v. length z.now ≤ length v) (rows_in ranked.now) }
+    ensures { result ≡ list_any (is_below_in (length z.now) z.now) (rows_in ranked.now) }
 {
-    for row in 0..basis.rows() {
-        let e = &basis.row(row + 1)[..z.len()];
+    for i in 0..ranked.len() {
+        let e = &ranked[i].row[..z.len()];
         if lies_below(e, z) {
             return true;
         }

@@ -4,6 +4,7 @@
 mod clashes;
 mod completeness;
 mod elements;
+mod ranked;
 
 pub use completeness::is_complete;
 

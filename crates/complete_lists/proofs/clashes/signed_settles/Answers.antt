@@ -1,4 +1,5 @@
 use Rattle.std.proofs.Common.{arith, ◌≡◌, ◌+◌, ◌-◌, ◌∙◌, sym, true, false}
+use Rattle.complete_lists.specs.Ranks.{rows_in}
 use Rattle.criterion_laws.specs.Prefixes.{clash_settles}
 use Rattle.complete_lists.proofs.ScanLaws.{list_all-at}
 use Rattle.complete_lists.proofs.clashes.signed_settles.Goals as goal
@@ -7,7 +8,7 @@ pub returns-then-not-branch : goal.returns-then-not-branch
 returns-then-not-branch c =
     let place : c.loop-row.row + 1 - 1 ≡ c.loop-row.row = omega arith in
     let there = rw place at c.row.ensures.entries in
-    sym (list_all-at (clash_settles c.args.cols c.args.basis.now.rows c.args.f.now) c.args.basis.now.rows
+    sym (list_all-at (clash_settles c.args.settlers.now.cols (rows_in c.args.settlers.now.ranked.items) c.args.f.now) c.args.basis.now.rows
     c.loop-row.row c.row.result.now false there
     (sym c.in_ok-clash_settles.ensures ∙ c.if-not-branch.true)) ∙ c.loop-row.invariant
 
@@ -15,6 +16,6 @@ pub loop-row-preserved : goal.loop-row-preserved
 loop-row-preserved c =
     let place : c.loop-row.row + 1 - 1 ≡ c.loop-row.row = omega arith in
     let there = rw place at c.row.ensures.entries in
-    sym (list_all-at (clash_settles c.args.cols c.args.basis.now.rows c.args.f.now) c.args.basis.now.rows
+    sym (list_all-at (clash_settles c.args.settlers.now.cols (rows_in c.args.settlers.now.ranked.items) c.args.f.now) c.args.basis.now.rows
     c.loop-row.row c.row.result.now true there
     (sym c.in_ok-clash_settles.ensures ∙ c.if-not-branch.false)) ∙ c.loop-row.invariant
