@@ -28,9 +28,12 @@ use Rattle.sieve_laws.specs.Sieve.{Menu, IsMenu, after}
 use Rattle.sieve_laws.specs.Sieve.{Layer}
 use Rattle.brick_dp.specs.Tables.{IsLayer}
 use Rattle.brick_dp.specs.Menus.{IsBrickMenu}
-use Rattle.brick_dp.specs.Needs.{IsLeastOf, AreAbove, NoneGains}
+use Rattle.run_theory.specs.declared.Key.{Key}
+use Rattle.run_theory.specs.Keys.{IsNoWorse}
+use Rattle.brick_dp.specs.Needs.{IsLeastOf, AreAbove, NoneGains, HasHope, NoneLives}
+use Rattle.brick_dp.proofs.NeedLaws.{no_worse}
 use Rattle.brick_dp.proofs.ChangeLaws.{at_same}
-use Rattle.brick_dp.proofs.FillLaws.{place_of, there_at, drop_here, AtBrick}
+use Rattle.brick_dp.proofs.FillLaws.{place_of, there_at, drop_here, AtBrick, most_small}
 
 -- ---- the least of a list of numbers
 
@@ -324,3 +327,25 @@ none_gains_above f x k i layer floor need low is above lowest origin h c wc =
         let most = (is.least.cells place.0 way.sum (Some a) place.1 at).1 way.moves way.rest way.walk in
         let high = above place.0 a at in
         omega (arith, ints, way.low, most, high, lowest)
+
+-- a cost of the last layer that leaves hope is that of a live node, under each bound before
+pub last_lives : (f : FoldValue) (x : Bricks) (k : ℕ) (layer : Layer) (floor : ℤ) (old new : Option Key) → 0 < length f.program.bricks →
+    total_magnitude f.program ≤ 2 ^ 120 → IsLayer f x k (length f.program.bricks) layer → HasHope k new layer floor → IsNoWorse old new →
+    floor ≡ least_before f.program f.phase (vectors f.sums) x k (length f.program.bricks) → unsigned_abs floor ≤ 2 * total_magnitude f.program →
+    NoneLives f x k old → ⊥
+last_lives f x k layer floor old new some most is (need, needed, (i, a, cell, low)) better lowest small none =
+    none node.0 (record {
+      layer = some;
+      inside = omega arith;
+      listed = listed (vectors f.sums) i node.0 node.1;
+      potential = a;
+      is = is.least.cells i node.0 (Some a) node.1 cell;
+      gains = omega (arith, ints, low, lowest, needed.low);
+      unbeaten = no_worse _ old new better (needed.enough _ (omega (arith, ints, lowest, small, most, a_small)) (omega (arith, ints, low, lowest, needed.low)));
+    })
+  where
+    node : (w : Vector) × (slice_get (vectors f.sums) i ≡ Some w)
+    node = there_at (vectors f.sums) i (omega (arith, is.least.size, slice_get_within layer i (Some a) cell))
+
+    a_small : unsigned_abs a ≤ 2 ^ 122
+    a_small = most_small f.program (length f.program.bricks) layer most is.small i a cell

@@ -1,10 +1,11 @@
 -- What a step has to gain, and by how much the moves of all bricks can lower the cost at most.
-use Rattle.std.specs.Prelude.{◌≡◌, ℕ, ◌^◌, ◌<◌, ◌≤◌, ◌⊎◌, ℤ, pos, ◌-ℤ◌, ◌≤ℤ◌, ◌<ℤ◌, false, List, Option, Some, None, IsTrue, slice_get}
-use Rattle.lattice_theory.specs.Vectors.{zeros}
+use Rattle.std.specs.Prelude.{◌≡◌, ℕ, ◌^◌, ◌<◌, ◌≤◌, ◌⊎◌, ℤ, pos, ◌-ℤ◌, ◌≤ℤ◌, ◌<ℤ◌, false, List, length, Option, Some, None, IsTrue, slice_get}
+use Rattle.lattice_theory.specs.Vectors.{Vector, zeros}
 use Rattle.lattice_theory.specs.SignedSums.{vectors}
 use Rattle.fold_theory.specs.Programs.{Bricks, link_rests}
 use Rattle.run_theory.specs.declared.Key.{Key}
 use Rattle.run_theory.specs.Keys.{beaten}
+use Rattle.run_theory.specs.Live.{IsLive}
 use Rattle.run_theory.specs.Outcomes.{Step}
 use Rattle.run_theory.specs.Walks.{WalkCosts}
 use Rattle.run_theory.specs.Folds.{FoldValue}
@@ -37,6 +38,10 @@ pub record IsLeastOf (menu : Menu) (least : ℤ) : Type 0 where
   pub low : (i : ℕ) (m : PricedMove) → slice_get menu i ≡ Some m → least ≤ℤ m.change
   pub attained : (least ≡ pos 0) ⊎ ((i : ℕ) × (m : PricedMove) × (slice_get menu i ≡ Some m) × (m.change ≡ least))
 
+-- a cost is there that is at most the limit
+abbrev pub IsWithin : ℤ → List (Option ℤ) → Type 0
+IsWithin limit costs = (i : ℕ) × (a : ℤ) × (slice_get costs i ≡ Some (Some a)) × (a ≤ℤ limit)
+
 -- each cost that is there is above the limit
 abbrev pub AreAbove : ℤ → List (Option ℤ) → Type 0
 AreAbove limit costs = (i : ℕ) (a : ℤ) → slice_get costs i ≡ Some (Some a) → limit <ℤ a
@@ -48,3 +53,11 @@ IsHopeless f x k bound = (need : ℤ) × IsNeeded k bound need × NoneGains f x 
 -- some gain is needed, and no cost of the layer is so low that with the floor it gains so much
 abbrev pub AreBeaten : ℕ → Option Key → List (Option ℤ) → ℤ → Type 0
 AreBeaten k bound costs floor = (need : ℤ) × IsNeeded k bound need × AreAbove ((pos 0 -ℤ need) -ℤ floor) costs
+
+-- some gain is needed, and a cost of the layer is so low that with the floor it gains so much
+abbrev pub HasHope : ℕ → Option Key → List (Option ℤ) → ℤ → Type 0
+HasHope k bound costs floor = (need : ℤ) × IsNeeded k bound need × IsWithin ((pos 0 -ℤ need) -ℤ floor) costs
+
+-- no node of the last layer is live: moves of all bricks, each taken by itself, cannot gain what the bound asks for
+abbrev pub NoneLives : FoldValue → Bricks → ℕ → Option Key → Type 0
+NoneLives f x k bound = (w : Vector) → IsLive f.program f.phase (vectors f.sums) x k bound (length f.program.bricks) w → ⊥

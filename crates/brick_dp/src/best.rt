@@ -7,7 +7,7 @@ ghost use Rattle.fold_theory.specs.Programs.{IsLength, AreWithin};
 ghost use Rattle.run_theory.specs.Starts.{IsStart};
 ghost use Rattle.run_theory.specs.Folds.{HasBrickSums};
 ghost use Rattle.brick_dp.specs.Menus.{AreMenus};
-ghost use Rattle.brick_dp.specs.Needs.{IsStepUnder};
+ghost use Rattle.brick_dp.specs.Needs.{IsStepUnder, NoneLives};
 ghost use Rattle.brick_dp.specs.Tables.{AreLayers};
 ghost use Rattle.brick_dp.specs.Answers.{IsStepAnswer};
 
@@ -45,6 +45,7 @@ pub fn best_step<B: Bound>(
     requires length { IsLength fold.now.program k }
     ensures answer { IfOk result (IsStepAnswer fold.now point.now k (B.last bound.new)) }
     ensures kept { B.later bound.old bound.new }
+    ensures untried { NoneLives fold.now point.now k (B.last bound.old) → moves.new ≡ moves.old }
     ensures rising { moves.old ≤ moves.new }
     ensures counted { moves.new ≤ moves.old + length fold.now.program.bricks * (length fold.now.sums * length fold.now.sums) }
 {
@@ -74,6 +75,7 @@ pub fn best_step_with<B: Bound>(
     requires length { IsLength fold.now.program k }
     ensures answer { IfOk result (IsStepAnswer fold.now point.now k (B.last bound.new)) }
     ensures kept { B.later bound.old bound.new }
+    ensures untried { NoneLives fold.now point.now k (B.last bound.old) → moves.new ≡ moves.old }
     ensures rising { moves.old ≤ moves.new }
     ensures counted { moves.new ≤ moves.old + length fold.now.program.bricks * (length fold.now.sums * length fold.now.sums) }
 {

@@ -1,14 +1,15 @@
 //! All layers, from the last one to the first.
 
 ghost use Rattle.std.specs.Prelude.{◌≡◌, ◌+◌, ◌*◌, ◌<◌, ◌≤◌, ◌^◌, ◌++◌, ◌∷◌, [], length, All, Contains, Some, IsTrue, IfOk, OnOk, MatchOption, slice_get, unsigned_abs};
-ghost use Rattle.std.specs.Bool.{OnTrue};
+ghost use Rattle.std.specs.Bool.{OnTrue, OnFalse};
 ghost use Rattle.lattice_theory.specs.Vectors.{is_rising, zeros};
 ghost use Rattle.lattice_theory.specs.SignedSums.{vectors};
 ghost use Rattle.fold_theory.specs.Programs.{AreWithin};
+ghost use Rattle.run_theory.specs.Keys.{IsNoWorse};
 ghost use Rattle.sieve_laws.specs.Sieve.{MayStay, IsLayerOver, AreTops};
 ghost use Rattle.layer_sieve.specs.Reaching.{AreAtMost, IsFair};
 ghost use Rattle.brick_dp.specs.Menus.{AreMenus};
-ghost use Rattle.brick_dp.specs.Needs.{IsHopeless, AreBeaten};
+ghost use Rattle.brick_dp.specs.Needs.{IsHopeless, AreBeaten, HasHope, NoneLives};
 ghost use Rattle.brick_dp.specs.Tables.{AreLayers};
 
 use crate::bounds::{Bound, needed};
@@ -82,6 +83,7 @@ pub(crate) fn layers_under<B: Bound>(
     ensures layers { IfOk result (λ found. MatchOption found (IsHopeless fold.now point.now k (B.last bound.new))
         (AreLayers fold.now point.now k (length fold.now.program.bricks + 1))) }
     ensures kept { B.later bound.old bound.new }
+    ensures untried { NoneLives fold.now point.now k (B.last bound.old) → moves.new ≡ moves.old }
     ensures rising { moves.old ≤ moves.new }
     ensures counted { moves.new ≤ moves.old + length fold.now.program.bricks * (length fold.now.sums * length fold.now.sums) }
 {
@@ -120,7 +122,9 @@ pub(crate) fn layers_under<B: Bound>(
 fn is_beaten<B: Bound>(bound: &mut B, k: u32, layer: &[Option<i128>], floor: i128) -> bool
     requires small { unsigned_abs floor ≤ 2 ^ 123 }
     ensures beaten { OnTrue result (AreBeaten k (B.last bound.new) layer.now floor) }
+    ensures hope { OnFalse result (HasHope k (B.last bound.new) layer.now floor) }
     ensures kept { B.later bound.old bound.new }
+    ensures better { IsNoWorse (B.last bound.old) (B.last bound.new) }
 {
     let need = needed(bound.now(), k);
     !any_within(layer, -need - floor)

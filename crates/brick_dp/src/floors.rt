@@ -1,14 +1,14 @@
 //! By how much the moves of all bricks lower the cost at most, each brick taken by itself.
 
 ghost use Rattle.std.specs.Prelude.{◌≡◌, ◌≤◌, ◌*◌, length, unsigned_abs, Contains};
-ghost use Rattle.std.specs.Bool.{OnFalse};
+ghost use Rattle.std.specs.Bool.{OnTrue, OnFalse};
 ghost use Rattle.lattice_theory.specs.SignedSums.{vectors};
 ghost use Rattle.lattice_theory.specs.Vectors.{zeros};
 ghost use Rattle.fold_theory.specs.Programs.{AreWithin};
 ghost use Rattle.fold_program.specs.Refusals.{total_magnitude};
 ghost use Rattle.run_theory.specs.Live.{least_before};
 ghost use Rattle.brick_dp.specs.Menus.{AreMenus};
-ghost use Rattle.brick_dp.specs.Needs.{IsLeastOf, AreAbove};
+ghost use Rattle.brick_dp.specs.Needs.{IsLeastOf, IsWithin, AreAbove};
 
 use crate::folds::Fold;
 use crate::menus::Menus;
@@ -45,7 +45,8 @@ pub(crate) fn least_change(menu: &[PricedMove]) -> i128
 
 /// Whether a cost is there that is at most the limit.
 pub(crate) fn any_within(costs: &[Option<i128>], limit: i128) -> bool
-    ensures { OnFalse result (AreAbove limit costs.now) }
+    ensures within { OnTrue result (IsWithin limit costs.now) }
+    ensures above { OnFalse result (AreAbove limit costs.now) }
 {
     for cost in costs {
         if let Some(cost) = *cost {

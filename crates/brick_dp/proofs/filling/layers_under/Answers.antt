@@ -11,10 +11,10 @@ use Rattle.sieve_laws.specs.Sieve.{Layer, AreTops, IsLayerOver, MayStay}
 use Rattle.layer_sieve.specs.Reaching.{AreAtMost, IsFair}
 use Rattle.brick_dp.proofs.MenuLaws.{menu_short, slice_get-last}
 use Rattle.brick_dp.proofs.FillLaws.{shape_of, length-within, layers_one, layers_more, stays, most_small, fair_menu, at_brick, buffer, place_of, tops_fresh, tops_same, last_is, layer_over, AtBrick}
-use Rattle.brick_dp.specs.Needs.{AreAbove, AreBeaten}
+use Rattle.brick_dp.specs.Needs.{AreAbove, AreBeaten, HasHope}
 use Rattle.brick_dp.specs.Ends.{IsLastLayer}
 use Rattle.brick_dp.specs.Tables.{IsLayer}
-use Rattle.brick_dp.proofs.FloorLaws.{floor_next, floor_fits, none_gains_above}
+use Rattle.brick_dp.proofs.FloorLaws.{floor_next, floor_fits, none_gains_above, last_lives}
 use Rattle.fold_theory.specs.Programs.{link_rests}
 use Rattle.brick_dp.proofs.LayerLaws.{count_round, count_more, count_all}
 use Rattle.brick_dp.proofs.filling.layers_under.Goals as goal
@@ -281,3 +281,58 @@ pub returns-then-is_beaten-2-clause-kept : goal.returns-then-is_beaten-2-clause-
 returns-then-is_beaten-2-clause-kept g c =
     let so_far = g.met.B.Bound.goes_on c.args.bound.now c.is_beaten.new.bound c.loop-done.bound c.if-is_beaten.ensures.kept c.loop-done.invariant.kept in
     g.met.B.Bound.goes_on c.args.bound.now c.loop-done.bound c.is_beaten-then-differs.new.bound so_far c.if-is_beaten-2.ensures.kept
+
+pub returns-in_err-differs-clause-untried : goal.returns-in_err-differs-clause-untried
+returns-in_err-differs-clause-untried g c =
+    let f = c.args.fold.now in
+    let x = c.args.point.now in
+    let bricks : c.n-bricks.result ≡ length f.program.bricks = c.n-bricks.ensures.bricks ∙ ap (λ (p : Program). length p.bricks) c.program.ensures in
+    let most : total_magnitude f.program ≤ 2 ^ 120 = subst (λ p. total_magnitude p ≤ 2 ^ 120) c.program.ensures c.n-bricks.ensures.magnitude in
+    let floor : FitsSigned w128 c.floor-floor.result = search rules in
+    let told : HasHope c.args.k (g.B.Bound.last c.is_beaten.new.bound) c.deref.result.now c.floor-floor.result =
+    simp to_z-of_z at c.if-is_beaten.ensures.hope in
+    let last : IsLayer f x c.args.k (length f.program.bricks) c.deref.result.now =
+    last_is f x c.args.k (length-within f.program.bricks x c.requires.within) c.deref.result.now
+    (subst (λ (l : List (Option ℤ)). IsLastLayer f c.args.k (link_rests f.program x) l) (sym c.deref.ensures.value) c.in_ok-layer.ensures) in
+    λ none. absurd (
+    last_lives f x c.args.k c.deref.result.now c.floor-floor.result (g.B.Bound.last c.args.bound.now) (g.B.Bound.last c.is_beaten.new.bound)
+    (omega (arith, bricks, c.n-bricks.ensures.from)) most last told c.if-is_beaten.ensures.better c.floor-floor.ensures.floor c.floor-floor.ensures.small none
+    )
+
+pub returns-then-is_beaten-2-clause-untried : goal.returns-then-is_beaten-2-clause-untried
+returns-then-is_beaten-2-clause-untried g c =
+    let f = c.args.fold.now in
+    let x = c.args.point.now in
+    let bricks : c.n-bricks.result ≡ length f.program.bricks = c.n-bricks.ensures.bricks ∙ ap (λ (p : Program). length p.bricks) c.program.ensures in
+    let most : total_magnitude f.program ≤ 2 ^ 120 = subst (λ p. total_magnitude p ≤ 2 ^ 120) c.program.ensures c.n-bricks.ensures.magnitude in
+    let floor : FitsSigned w128 c.floor-floor.result = search rules in
+    let told : HasHope c.args.k (g.B.Bound.last c.is_beaten.new.bound) c.deref.result.now c.floor-floor.result =
+    simp to_z-of_z at c.if-is_beaten.ensures.hope in
+    let last : IsLayer f x c.args.k (length f.program.bricks) c.deref.result.now =
+    last_is f x c.args.k (length-within f.program.bricks x c.requires.within) c.deref.result.now
+    (subst (λ (l : List (Option ℤ)). IsLastLayer f c.args.k (link_rests f.program x) l) (sym c.deref.ensures.value) c.in_ok-layer.ensures) in
+    λ none. absurd (
+    last_lives f x c.args.k c.deref.result.now c.floor-floor.result (g.B.Bound.last c.args.bound.now) (g.B.Bound.last c.is_beaten.new.bound)
+    (omega (arith, bricks, c.n-bricks.ensures.from)) most last told c.if-is_beaten.ensures.better c.floor-floor.ensures.floor c.floor-floor.ensures.small none
+    )
+
+pub returns-clause-untried : goal.returns-clause-untried
+returns-clause-untried g c =
+    let f = c.args.fold.now in
+    let x = c.args.point.now in
+    let bricks : c.n-bricks.result ≡ length f.program.bricks = c.n-bricks.ensures.bricks ∙ ap (λ (p : Program). length p.bricks) c.program.ensures in
+    let most : total_magnitude f.program ≤ 2 ^ 120 = subst (λ p. total_magnitude p ≤ 2 ^ 120) c.program.ensures c.n-bricks.ensures.magnitude in
+    let floor : FitsSigned w128 c.floor-floor.result = search rules in
+    let told : HasHope c.args.k (g.B.Bound.last c.is_beaten.new.bound) c.deref.result.now c.floor-floor.result =
+    simp to_z-of_z at c.if-is_beaten.ensures.hope in
+    let last : IsLayer f x c.args.k (length f.program.bricks) c.deref.result.now =
+    last_is f x c.args.k (length-within f.program.bricks x c.requires.within) c.deref.result.now
+    (subst (λ (l : List (Option ℤ)). IsLastLayer f c.args.k (link_rests f.program x) l) (sym c.deref.ensures.value) c.in_ok-layer.ensures) in
+    λ none. absurd (
+    last_lives f x c.args.k c.deref.result.now c.floor-floor.result (g.B.Bound.last c.args.bound.now) (g.B.Bound.last c.is_beaten.new.bound)
+    (omega (arith, bricks, c.n-bricks.ensures.from)) most last told c.if-is_beaten.ensures.better c.floor-floor.ensures.floor c.floor-floor.ensures.small none
+    )
+
+pub returns-clause-kept : goal.returns-clause-kept
+returns-clause-kept g c =
+    g.met.B.Bound.goes_on c.args.bound.now c.is_beaten.new.bound c.loop-done.bound c.if-is_beaten.ensures.kept c.loop-done.invariant.kept
