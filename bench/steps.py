@@ -1,18 +1,20 @@
 #!/usr/bin/env python3
 """Runs `nfold solve` and `nfold check` on generated programs that grow, and prints their time, memory and steps.
 
-    python3 bench/steps.py [--program FILE] [--family NAME ..] [--most N] [--peer]
+    python3 bench/steps.py [--program FILE] [--family NAME ..] [--most N] [--workers W ..] [--peer]
 
 The program is that of crates/nfold/out unless another is given. The families are
 
 - allocation: n people choose how much of one budget they take, at costs of their own (5 brick sums);
 - transport-2, -3, -4, -5: so many depots serve n customers, at costs that grow with the amount (5, 37, 309 and 2,751
-  brick sums).
+  brick sums);
+- wide-2, -3, -4: the same with amounts up to some millions, so that workers have 24 step lengths to share.
 
-Each is run for n = 30, 100, 300, 1,000, 3,000 and 10,000, as far as --most and the table of layers allow. With --peer
-the same program is given to `glpsol` where it is installed and the costs are linear in pieces; it is a yardstick and
-nothing of the program needs it. The files lie in a new temporary folder, which goes again. What is printed is what
-was measured in this run on this machine, and nothing more.
+Each is run for n = 30, 100, 300, 1,000, 3,000 and 10,000, as far as --most and the table of layers allow, by each
+number of workers; the processor time is that of all of them together, the elapsed time what a user waits. With --peer
+the program of a family that is not wide is given to `glpsol` too, where it is installed; it is a yardstick and nothing
+of the program needs it. The files lie in a new temporary folder, which goes again. What is printed is what was measured
+in this run on this machine, and nothing more.
 """
 import argparse
 import os
@@ -26,6 +28,8 @@ import time
 ROOT = os.path.dirname(os.path.dirname(os.path.abspath(__file__)))
 SIZES = [30, 100, 300, 1000, 3000, 10000]
 SUMS = {"allocation": 5, "transport-2": 5, "transport-3": 37, "transport-4": 309, "transport-5": 2751}
+SUMS |= {"wide-2": 5, "wide-3": 37, "wide-4": 309}
+WIDE = 1 << 20
 
 
 def allocation(n, chance):
@@ -34,14 +38,16 @@ def allocation(n, chance):
     return {"link": [[1, 0]], "brick": [[1, 1]], "upper": [[8, 8]] * n, "right": [3 * n] + [8] * n, "costs": costs}
 
 
-def transport(depots, n, chance):
+def transport(depots, n, chance, unit_size=1):
     """A column for each depot: what the customer gets from there; each depot has just what is asked of it."""
     demands = [chance.randint(2, 9) for _ in range(n)]
     served = [0] * depots
     for demand in demands:
         for _ in range(demand):
             served[chance.randrange(depots)] += 1
-    costs = [[f"q {chance.randint(0, 2)} {chance.randint(1, 30)} 0" for _ in range(depots)] for _ in range(n)]
+    demands, served = [unit_size * d for d in demands], [unit_size * s for s in served]
+    slope = lambda: chance.randint(1, 30 * unit_size)
+    costs = [[f"q {chance.randint(0, 2)} {slope()} 0" for _ in range(depots)] for _ in range(n)]
     unit = [[int(i == j) for j in range(depots)] for i in range(depots)]
     upper = [[demand] * depots for demand in demands]
     return {"link": unit, "brick": [[1] * depots], "upper": upper, "right": served + demands, "costs": costs}
@@ -67,13 +73,16 @@ def write(folder, parts):
 
 
 def run(words, folder):
-    """The status, the printed bytes, the seconds of processor time and the peak memory in MB of one run."""
+    """The status, the printed bytes, the processor time in s, the peak memory in MB and the elapsed time of one run."""
+    begin = time.monotonic()
     with open(os.path.join(folder, "out"), "wb") as out:
         child = subprocess.Popen(words, cwd=folder, stdout=out, stderr=subprocess.DEVNULL)
         _, status, usage = os.wait4(child.pid, 0)
+    elapsed = time.monotonic() - begin
     with open(os.path.join(folder, "out"), "rb") as out:
         text = out.read().decode("ascii")
-    return os.waitstatus_to_exitcode(status), text, usage.ru_utime + usage.ru_stime, usage.ru_maxrss / 1024
+    took = usage.ru_utime + usage.ru_stime
+    return os.waitstatus_to_exitcode(status), text, took, usage.ru_maxrss / 1024, elapsed
 
 
 def peer(folder, parts):
@@ -104,28 +113,45 @@ def peer(folder, parts):
     return run(["glpsol", "--lp", "b.lp", "-o", "b.sol"], folder)[2]
 
 
+def made(family, n):
+    """The program of a family with n bricks; it is the same each time."""
+    chance = random.Random(n)
+    if family == "allocation":
+        return allocation(n, chance)
+    return transport(int(family[-1]), n, chance, WIDE if family.startswith("wide") else 1)
+
+
+def measure(program, family, n, counts, with_peer):
+    """Prints a line for each number of workers."""
+    parts, with_peer = made(family, n), with_peer and not family.startswith("wide")
+    with tempfile.TemporaryDirectory() as folder:
+        write(folder, parts)
+        for workers in counts:
+            words = [program, "solve", "b", "--trace", "--workers", str(workers)]
+            status, text, seconds, memory, elapsed = run(words, folder)
+            steps = sum(line.startswith(("counted length", "closed length")) for line in text.split("\n"))
+            checked = run([program, "check", "b"], folder) if status == 0 else (status, "", 0.0, 0.0, 0.0)
+            end = f"{checked[2]:9.3f}" if checked[0] == 0 else f"status {status}, {checked[0]}"
+            last = f"  {peer(folder, parts):9.3f}" if with_peer else ""
+            times = f"{seconds:10.3f}{elapsed:11.3f}"
+            print(f"{family:12}{n:7}{workers:9}{steps:9}{times}{memory:8.0f} {end}{last}", flush=True)
+
+
 def main():
     parser = argparse.ArgumentParser(description="Times nfold solve and check on generated programs that grow.")
     parser.add_argument("--program", default=os.path.join(ROOT, "crates", "nfold", "out", "nfold"))
-    parser.add_argument("--family", nargs="*", choices=sorted(SUMS), default=["allocation", "transport-2", "transport-3", "transport-4"])
+    families = ["allocation", "transport-2", "transport-3", "transport-4"]
+    parser.add_argument("--family", nargs="*", choices=sorted(SUMS), default=families)
     parser.add_argument("--most", type=int, default=3000)
+    parser.add_argument("--workers", nargs="*", type=int, default=[1])
     parser.add_argument("--peer", action="store_true")
     options = parser.parse_args()
-    program = os.path.abspath(options.program)
     with_peer = options.peer and shutil.which("glpsol")
-    print("family            n    steps   solve s      MB   check s" + ("   glpsol s" if with_peer else ""))
+    head = "family            n  workers    steps   solve s  elapsed s      MB   check s"
+    print(head + ("   glpsol s" if with_peer else ""))
     for family in options.family:
         for n in [n for n in SIZES if n <= options.most and (n + 1) * SUMS[family] <= 2**20]:
-            chance = random.Random(n)
-            parts = allocation(n, chance) if family == "allocation" else transport(int(family[-1]), n, chance)
-            with tempfile.TemporaryDirectory() as folder:
-                write(folder, parts)
-                status, text, seconds, memory = run([program, "solve", "b", "--trace"], folder)
-                steps = sum(line.startswith(("counted length", "closed length")) for line in text.split("\n"))
-                checked = run([program, "check", "b"], folder) if status == 0 else (status, "", 0.0, 0.0)
-                end = f"{checked[2]:9.3f}" if checked[0] == 0 else f"status {status}, {checked[0]}"
-                last = f"  {peer(folder, parts):9.3f}" if with_peer else ""
-                print(f"{family:12}{n:7}{steps:9}{seconds:10.3f}{memory:8.0f} {end}{last}", flush=True)
+            measure(os.path.abspath(options.program), family, n, options.workers, with_peer)
     return 0
 
 
