@@ -14,7 +14,8 @@ module _ (k : ℕ) (all : List Step) where
   pub past_none : IsPast k all all
   past_none = record { past = []; rest = sym (append-nil all); others = All-nil (λ (s : Step). s.k ≢ k) }
 
-  pub past_more : (left rest : List Step) (s : Step) → left ≡ (rest ++ s ∷ []) → s.k ≢ k → IsPast k all left → IsPast k all rest
+  pub past_more : (left rest : List Step) (s : Step) → left ≡ (rest ++ s ∷ []) → s.k ≢ k → IsPast k all left
+      → IsPast k all rest
   past_more left rest s is other h = record {
     past = s ∷ h.past;
     rest = h.rest ∙ ap (λ l. l ++ h.past) is ∙ append_assoc rest (s ∷ []) h.past;

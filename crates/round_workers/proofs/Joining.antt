@@ -1,14 +1,16 @@
 -- The workers after their work, of whom the last is the opening one.
-use Rattle.std.proofs.Common.{◌≡◌, ◌≢◌, ℕ, zero, suc, ◌+◌, ◌<◌, List, [], ◌∷◌, ◌++◌, length, map, slice_index_or, Ok, Result, IfOk, IfSome, IfNone, Option, Some, None, refl, ap, sym, ◌∙◌, subst, arith, inl}
+use Rattle.std.proofs.Common.{◌≡◌, ◌≢◌, ℕ, zero, suc, ◌+◌, ◌<◌, List, [], ◌∷◌, ◌++◌, length, map, slice_index_or}
+use Rattle.std.proofs.Common.{Ok, Result, IfOk, IfSome, IfNone, Option, Some, None, refl, ap, sym, ◌∙◌, subst, arith}
+use Rattle.std.proofs.Common.{inl}
 use Rattle.std.specs.List.{All, Contains}
 use Rattle.std.proofs.lemmas.List.{length-map, length-append}
-use Rattle.std.proofs.lemmas.List.Elements.{All-nil, All-cons, All-head, All-tail, All-append, All-push, All-pop, All-contains}
+use Rattle.std.proofs.lemmas.List.Elements.{All-nil, All-cons, All-head, All-tail, All-append, All-push, All-pop}
+use Rattle.std.proofs.lemmas.List.Elements.{All-contains}
 use Rattle.atomic_table.specs.Seated.{TableId}
 use Rattle.fold_theory.specs.Programs.{Bricks}
-use Rattle.lattice_theory.specs.SignedSums.{vectors}
 use Rattle.run_theory.specs.Outcomes.{Step}
 use Rattle.run_theory.specs.Folds.{FoldValue}
-use Rattle.run_theory.specs.Bests.{IsFound, AreGains, IsBestByGains, IsRuleStep}
+use Rattle.run_theory.specs.Bests.{IsFound, IsBestByGains, IsRuleStep}
 use Rattle.rule_laws.proofs.Gains.{best_gain}
 use Rattle.round_core.specs.declared.parts.Fate.TheVariants.{Offered}
 use Rattle.round_core.specs.declared.parts.Stand.TheVariants.{Finished}
@@ -18,7 +20,9 @@ use Rattle.board_laws.specs.declared.views.View.{View}
 use Rattle.board_laws.specs.Views.{owned, HasFate, opening_view, splitting_view, fresh_view, joined_view}
 use Rattle.board_laws.specs.Closing.{IsSettled, MayClose}
 use Rattle.incumbent.specs.Seats.{Held}
-use Rattle.round_workers.specs.Workers.{WorkerValue, HasSteps, Keeps, IsReady, IsDone, IsSplitOff, IsOpening, IsSplitting, IsTeam, IsTaking}
+use Rattle.round_workers.specs.Tasks.{HasGains}
+use Rattle.round_workers.specs.Workers.{WorkerValue, HasSteps, Keeps, IsReady, IsDone, IsSplitOff, IsOpening}
+use Rattle.round_workers.specs.Workers.{IsSplitting, IsTeam, IsTaking}
 use Rattle.round_workers.proofs.Steps.{HasSteps-append_left, HasSteps-append_right}
 
 -- a length that was offered has its step among these
@@ -34,14 +38,16 @@ module _ (f : FoldValue) (x : Bricks) where
   Left (w ∷ ws) (r ∷ rs) = IsDone f x w r × Left ws rs
 
   left_by : (ws rs : List WorkerValue) → length rs ≡ length ws
-      → ((i : ℕ) (d : WorkerValue) → i < length ws → IsDone f x (slice_index_or ws i d) (slice_index_or rs i d)) → Left ws rs
+      → ((i : ℕ) (d : WorkerValue) → i < length ws → IsDone f x (slice_index_or ws i d) (slice_index_or rs i d))
+      → Left ws rs
   left_by [] [] same each = tt
   left_by [] (r ∷ rs) same each = absurd (omega (arith, same))
   left_by (w ∷ ws) [] same each = absurd (omega (arith, same))
   left_by (w ∷ ws) (r ∷ rs) same each =
       (each 0 w (omega arith), left_by ws rs (omega (arith, same)) (λ i d lt. each (suc i) d (omega (arith, lt))))
 
-  left_last : (ws rs : List WorkerValue) (w r : WorkerValue) → Left (ws ++ w ∷ []) (rs ++ r ∷ []) → Left ws rs × IsDone f x w r
+  left_last : (ws rs : List WorkerValue) (w r : WorkerValue) → Left (ws ++ w ∷ []) (rs ++ r ∷ [])
+      → Left ws rs × IsDone f x w r
   left_last [] [] w r h = (tt, h.0)
   left_last [] (b ∷ []) w r h = absurd h.1
   left_last [] (b ∷ c ∷ rs) w r h = absurd h.1
@@ -58,7 +64,12 @@ module _ (f : FoldValue) (x : Bricks) where
       let d = h.0 in
       let s = All-head (IsSplitOff f x table) w ws all in
       All-cons (IsSplitOff f x table) r rs
-      (record { of = d.of ∙ s.of; keeps = d.keeps; number = λ z. s.number (sym d.number ∙ z); joined = d.joined ∙ s.joined })
+      (record {
+        of = d.of ∙ s.of;
+        keeps = d.keeps;
+        number = λ z. s.number (sym d.number ∙ z);
+        joined = d.joined ∙ s.joined;
+      })
       (left_split table ws rs h.1 (All-tail (IsSplitOff f x table) w ws all))
 
   left_count : (ws rs : List WorkerValue) → Left ws rs → length rs ≡ length ws
@@ -98,12 +109,15 @@ module _ (f : FoldValue) (x : Bricks) where
   -- ---- a worker takes in another one
 
   joined_keeps : (gains : List (Option ℕ)) (w o j : WorkerValue) → Keeps f x w → Keeps f x o
-      → j.held.view ≡ joined_view gains w.held.view o.held.view → j.steps ≡ (w.steps ++ o.steps) → Keeps f x j
+      → j.held.view ≡ joined_view gains w.held.view o.held.view → j.steps ≡ (w.steps ++ o.steps)
+      → Keeps f x j
   joined_keeps gains w o j mine theirs view steps =
-      let owned_is : j.held.view.owned ≡ (w.held.view.owned ++ o.held.view.owned) = ap (λ (v : View). v.owned) view in record {
+      let owned_is : j.held.view.owned ≡ (w.held.view.owned ++ o.held.view.owned) = ap (λ (v : View). v.owned) view in
+      record {
         settled = subst (All IsSettled) (sym owned_is)
             (All-append IsSettled w.held.view.owned o.held.view.owned mine.settled theirs.settled);
-        kept = subst (λ ss. HasSteps ss j.held.view.owned) (sym steps) (subst (HasSteps (w.steps ++ o.steps)) (sym owned_is)
+        kept = subst (λ ss. HasSteps ss j.held.view.owned) (sym steps)
+            (subst (HasSteps (w.steps ++ o.steps)) (sym owned_is)
             (All-append (Has (w.steps ++ o.steps)) w.held.view.owned o.held.view.owned
             (HasSteps-append_left w.steps o.steps w.held.view.owned mine.kept)
             (HasSteps-append_right w.steps o.steps o.held.view.owned theirs.kept)));
@@ -113,14 +127,15 @@ module _ (f : FoldValue) (x : Bricks) where
 
   -- ---- the end
 
-  module _ (gains : List (Option ℕ)) (are : AreGains f.program f.phase (vectors f.sums) x gains) (w : WorkerValue)
+  module _ (gains : List (Option ℕ)) (are : HasGains f x gains) (w : WorkerValue)
       (keeps : Keeps f x w) where
     -- the best length has a step
     best_kept : (k : ℕ) → HasFate k Offered w.held.view.owned → (s : Step) × Contains w.steps s × (s.k ≡ k)
     best_kept k has = All-contains (Has w.steps) w.held.view.owned (owned k Offered) keeps.kept has refl
 
     -- a step of the best length is the rule's
-    best_rule : (k : ℕ) (s : Step) → IsBestByGains gains (Some k) → Contains w.steps s → s.k ≡ k → IsRuleStep f x (Some s)
+    best_rule : (k : ℕ) (s : Step) → IsBestByGains gains (Some k) → Contains w.steps s → s.k ≡ k
+        → IsRuleStep f x (Some s)
     best_rule k s best has is =
         best_gain f x gains are k s best
         (subst (λ j. IsFound f x j s) is (All-contains (λ s. IsFound f x s.k s) w.steps s keeps.found has))
@@ -142,7 +157,8 @@ at_ok E (w ∷ ws) (suc i) d = at_ok E ws i d
 
 all_are_done : (E : Type 0) (f : FoldValue) (x : Bricks) (ws : List WorkerValue) (rs : List (Result WorkerValue E))
     (vs : List WorkerValue) → map Ok vs ≡ rs
-    → ((i : ℕ) (d : WorkerValue) (e : Result WorkerValue E) → i < length ws → IfOk (slice_index_or rs i e) (IsDone f x (slice_index_or ws i d)))
+    → ((i : ℕ) (d : WorkerValue) (e : Result WorkerValue E) → i < length ws
+    → IfOk (slice_index_or rs i e) (IsDone f x (slice_index_or ws i d)))
     → (i : ℕ) (d : WorkerValue) → i < length ws → IsDone f x (slice_index_or ws i d) (slice_index_or vs i d)
 all_are_done E f x ws rs vs is each i d lt =
     subst (λ (r : Result WorkerValue E). IfOk r (IsDone f x (slice_index_or ws i d)))
@@ -155,7 +171,8 @@ done_count E ws rs vs is same = sym (length-map vs Ok) ∙ ap length is ∙ same
 pub team_is_done : (E : Type 0) (f : FoldValue) (x : Bricks) (table : TableId) (ws : List WorkerValue)
     (rs : List (Result WorkerValue E)) (vs rest : List WorkerValue) (last : WorkerValue) → IsTeam f x table ws
     → length rs ≡ length ws
-    → ((i : ℕ) (d : WorkerValue) (e : Result WorkerValue E) → i < length ws → IfOk (slice_index_or rs i e) (IsDone f x (slice_index_or ws i d)))
+    → ((i : ℕ) (d : WorkerValue) (e : Result WorkerValue E) → i < length ws
+    → IfOk (slice_index_or rs i e) (IsDone f x (slice_index_or ws i d)))
     → map Ok vs ≡ rs → vs ≡ (rest ++ last ∷ []) → TeamDone f x table rest last
 team_is_done E f x table ws rs vs rest last team count each ok is =
     team_done f x table ws vs rest last team (done_count E ws rs vs ok count) (all_are_done E f x ws rs vs ok each) is
@@ -170,7 +187,8 @@ nothing_kept f x w none no_steps = record {
   found = subst (All (λ s. IsFound f x s.k s)) (sym no_steps) (All-nil (λ (s : Step). IsFound f x s.k s));
 }
 
-module _ (f : FoldValue) (x : Bricks) (table : TableId) (w : WorkerValue) (of : w.held.table ≡ table) (no_steps : w.steps ≡ []) where
+module _ (f : FoldValue) (x : Bricks) (table : TableId) (w : WorkerValue) (of : w.held.table ≡ table)
+    (no_steps : w.steps ≡ []) where
   fresh_ready : (v : View) → w.held.view ≡ fresh_view v → IsReady f x table w
   fresh_ready v is = record {
     of = of;
@@ -212,8 +230,9 @@ module _ (f : FoldValue) (x : Bricks) (table : TableId) where
     split = All-nil (IsSplitOff f x table);
   }
 
-  pub splitting_more : (o p : Held) (workers more : List WorkerValue) (w : WorkerValue) → IsSplitting f x table o workers
-      → p.table ≡ o.table → p.view ≡ splitting_view o.view → w.held.table ≡ o.table → w.held.view ≡ fresh_view o.view
+  pub splitting_more : (o p : Held) (workers more : List WorkerValue) (w : WorkerValue)
+      → IsSplitting f x table o workers → p.table ≡ o.table → p.view ≡ splitting_view o.view
+      → w.held.table ≡ o.table → w.held.view ≡ fresh_view o.view
       → w.steps ≡ [] → more ≡ (workers ++ w ∷ []) → IsSplitting f x table p more
   splitting_more o p workers more w h of view fresh_of fresh no_steps is =
       let count : suc (length workers) ≡ length more =
@@ -221,9 +240,11 @@ module _ (f : FoldValue) (x : Bricks) (table : TableId) where
         of = of ∙ h.of;
         view = view ∙ ap splitting_view h.view ∙ ap (λ n. record opening_view { made = n }) count;
         ready = subst (All (IsReady f x table)) (sym is)
-            (All-push (IsReady f x table) workers w h.ready (fresh_ready f x table w (fresh_of ∙ h.of) no_steps o.view fresh));
+            (All-push (IsReady f x table) workers w h.ready
+            (fresh_ready f x table w (fresh_of ∙ h.of) no_steps o.view fresh));
         split = subst (All (IsSplitOff f x table)) (sym is)
-            (All-push (IsSplitOff f x table) workers w h.split (fresh_split f x table w (fresh_of ∙ h.of) no_steps o.view fresh));
+            (All-push (IsSplitOff f x table) workers w h.split
+            (fresh_split f x table w (fresh_of ∙ h.of) no_steps o.view fresh));
       }
 
   module _ (o : Held) (workers all : List WorkerValue) (w : WorkerValue) (h : IsSplitting f x table o workers)
@@ -236,7 +257,8 @@ module _ (f : FoldValue) (x : Bricks) (table : TableId) where
 
     pub team_ready : All (IsReady f x table) all
     team_ready = subst (All (IsReady f x table)) (sym is)
-        (All-push (IsReady f x table) workers w h.ready (opening_ready f x table w table_is no_steps (length workers) view_is))
+        (All-push (IsReady f x table) workers w h.ready
+        (opening_ready f x table w table_is no_steps (length workers) view_is))
 
     pub team_whole : IsTeam f x table all
     team_whole = record {
@@ -261,14 +283,16 @@ module _ (f : FoldValue) (x : Bricks) (table : TableId) where
     split = split;
   }
 
-  pub taking_next : (gains : List (Option ℕ)) (w o j : WorkerValue) (others rest : List WorkerValue) → IsTaking f x table w others
-      → others ≡ (rest ++ o ∷ []) → j.held.table ≡ w.held.table → j.held.view ≡ joined_view gains w.held.view o.held.view
-      → j.steps ≡ (w.steps ++ o.steps) → IsTaking f x table j rest
+  pub taking_next : (gains : List (Option ℕ)) (w o j : WorkerValue) (others rest : List WorkerValue)
+      → IsTaking f x table w others → others ≡ (rest ++ o ∷ []) → j.held.table ≡ w.held.table
+      → j.held.view ≡ joined_view gains w.held.view o.held.view → j.steps ≡ (w.steps ++ o.steps)
+      → IsTaking f x table j rest
   taking_next gains w o j others rest t is of view steps =
       let split = All-pop (IsSplitOff f x table) others rest (Some o) is t.split in
       let theirs : IsSplitOff f x table o = split.1 in
       let count = ap length is ∙ length-append rest (o ∷ []) in
-      let joined : j.held.view.joined ≡ suc (w.held.view.joined + o.held.view.joined) = ap (λ (v : View). v.joined) view in
+      let joined : j.held.view.joined ≡ suc (w.held.view.joined + o.held.view.joined) =
+      ap (λ (v : View). v.joined) view in
       let made : j.held.view.made ≡ w.held.view.made = ap (λ (v : View). v.made) view in
       let none = theirs.joined in
       let all = t.counted in record {
@@ -287,8 +311,8 @@ module _ (f : FoldValue) (x : Bricks) (table : TableId) where
       let theirs : IsSplitOff f x table o = (All-pop (IsSplitOff f x table) others rest (Some o) is t.split).1 in
       (theirs.of, theirs.number)
 
-  pub taking_last : (gains : List (Option ℕ)) (w : WorkerValue) (others : List WorkerValue) → IsTaking f x table w others
-      → others ≡ [] → MayClose gains w.held.view
+  pub taking_last : (gains : List (Option ℕ)) (w : WorkerValue) (others : List WorkerValue)
+      → IsTaking f x table w others → others ≡ [] → MayClose gains w.held.view
   taking_last gains w others t is = record {
     opening = t.number;
     alone = let n = ap length is in let c = t.counted in omega (arith, n, c);

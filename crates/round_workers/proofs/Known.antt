@@ -1,5 +1,6 @@
 -- The gains of a round, and what the answer for one length says of them.
-use Rattle.std.proofs.Common.{◌≡◌, ℕ, ◌<◌, ◌≤◌, ◌^◌, ◌↔◌, max, List, length, [], ◌∷◌, ◌++◌, Option, Some, None, IfSome, IfNone, IsTrue, option_map, refl, ap, subst, arith, inl, inr, ⊎_elim}
+use Rattle.std.proofs.Common.{◌≡◌, ℕ, ◌<◌, ◌≤◌, ◌^◌, ◌↔◌, max, List, length, [], ◌∷◌, ◌++◌, Option, Some, None, IfSome}
+use Rattle.std.proofs.Common.{IfNone, IsTrue, option_map, refl, ap, subst, arith, inl, inr, ⊎_elim}
 use Rattle.std.proofs.lemmas.Int.{ints}
 use Rattle.std.proofs.lemmas.Option.{slice_get-get_or}
 use Rattle.lattice_theory.specs.SignedSums.{vectors}
@@ -9,7 +10,7 @@ use Rattle.run_theory.specs.Keys.{beaten}
 use Rattle.run_theory.specs.Steps.{IsGain}
 use Rattle.run_theory.specs.Outcomes.{Step}
 use Rattle.run_theory.specs.Folds.{FoldValue}
-use Rattle.run_theory.specs.Bests.{AreGains, IsFound, IsBeaten, NoneOfLength}
+use Rattle.run_theory.specs.Bests.{IsFound, IsBeaten, NoneOfLength}
 use Rattle.step_lengths.specs.Lengths.{IsLengthCount}
 use Rattle.rule_laws.proofs.BestUpTo.{found_gain}
 use Rattle.round_core.proofs.Decided.{less_or_not}
@@ -21,6 +22,7 @@ use Rattle.brick_dp.specs.declared.answers.StepAnswer.TheVariants as answers
 use Rattle.board_laws.specs.declared.views.View.{View}
 use Rattle.board_laws.specs.Indexes.{gain_of, length_key, IsOutdone}
 use Rattle.board_laws.specs.Views.{seeing_view, settling_view}
+use Rattle.round_workers.specs.Tasks.{HasGains}
 use Rattle.round_workers.specs.Workers.{WorkerValue, HasTried}
 use Rattle.round_workers.proofs.Steps.{looked_settled}
 
@@ -39,8 +41,8 @@ module _ (f : FoldValue) (x : Bricks) (k : ℕ) where
       let e = a.0.2 in
       let d = b.0.2 in ap Some (omega (arith, ints, up, down, e, d))
 
-module _ (f : FoldValue) (x : Bricks) (gains : List (Option ℕ)) (are : AreGains f.program f.phase (vectors f.sums) x gains)
-    (k : ℕ) (low : k < length gains) where
+module _ (f : FoldValue) (x : Bricks) (gains : List (Option ℕ)) (are : HasGains f x gains) (k : ℕ)
+    (low : k < length gains) where
   listed : At f x k (gain_of gains k)
   listed = are.each k (gain_of gains k) (slice_get-get_or gains k None low)
 
@@ -72,8 +74,8 @@ some_length range n is = let one : 2 ^ 0 ≤ max 1 range = omega arith in omega 
 
 -- ---- the answer for one length
 
-pub answer_found : (f : FoldValue) (x : Bricks) (k : ℕ) (bound : Option Key) (a : StepAnswer) (s : Step) → a ≡ answers.Found s
-    → IsStepAnswer f x k bound a → IsFound f x k s
+pub answer_found : (f : FoldValue) (x : Bricks) (k : ℕ) (bound : Option Key) (a : StepAnswer) (s : Step)
+    → a ≡ answers.Found s → IsStepAnswer f x k bound a → IsFound f x k s
 answer_found f x k bound a s is answer = (subst (IsStepAnswer f x k bound) is answer).0
 
 pub answer_beaten : (f : FoldValue) (x : Bricks) (k : ℕ) (bound : Option Key) (a : StepAnswer) → a ≡ answers.Beaten
@@ -82,7 +84,8 @@ answer_beaten f x k bound a is answer = subst (IsStepAnswer f x k bound) is answ
 
 -- the seat b looked before it settled the length
 module _ (f : FoldValue) (x : Bricks) (k : ℕ) (w r : WorkerValue) (b : View) (bound : Option Key) (a : StepAnswer)
-    (looked : b ≡ seeing_view w.held.view b.seen) (of : r.held.table ≡ w.held.table) (answer : IsStepAnswer f x k bound a) where
+    (looked : b ≡ seeing_view w.held.view b.seen) (of : r.held.table ≡ w.held.table)
+    (answer : IsStepAnswer f x k bound a) where
   pub has_tried : (step : Option Step)
       → IfSome step (λ s. (a ≡ answers.Found s) × (r.held.view ≡ settling_view b k Offered r.held.view.seen))
       → IfNone step (r.held.view ≡ settling_view b k Beaten r.held.view.seen)
@@ -91,5 +94,10 @@ module _ (f : FoldValue) (x : Bricks) (k : ℕ) (w r : WorkerValue) (b : View) (
       record { of = of; fate = inl (looked_settled w.held.view b r.held.view k Beaten looked beaten, same) }
   has_tried (Some s) offered _ one _ = record {
     of = of;
-    fate = inr (s, answer_found f x k bound a s offered.0 answer, looked_settled w.held.view b r.held.view k Offered looked offered.1, one);
+    fate = inr (
+      s,
+      answer_found f x k bound a s offered.0 answer,
+      looked_settled w.held.view b r.held.view k Offered looked offered.1,
+      one,
+    );
   }

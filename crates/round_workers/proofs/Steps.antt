@@ -1,7 +1,9 @@
 -- What a worker does to its seat and its steps.
-use Rattle.std.proofs.Common.{◌≡◌, ◌≢◌, ℕ, ◌-◌, ◌<◌, ◌≤◌, cond, eqb, List, [], ◌∷◌, ◌++◌, refl, ap, sym, ◌∙◌, subst, arith, ⊎_elim, eq-eqb, ne_eqb}
+use Rattle.std.proofs.Common.{◌≡◌, ◌≢◌, ℕ, ◌-◌, ◌<◌, ◌≤◌, cond, eqb, List, [], ◌∷◌, ◌++◌, refl, ap, sym, ◌∙◌, subst}
+use Rattle.std.proofs.Common.{arith, ⊎_elim, eq-eqb, ne_eqb}
 use Rattle.std.specs.List.{All, Contains}
-use Rattle.std.proofs.lemmas.List.Elements.{All-head, All-tail, All-push, All-weaker, Contains-append_left, Contains-append_right, Contains-push}
+use Rattle.std.proofs.lemmas.List.Elements.{All-head, All-tail, All-push, All-weaker, Contains-append_left}
+use Rattle.std.proofs.lemmas.List.Elements.{Contains-append_right, Contains-push}
 use Rattle.round_core.proofs.Places.{same_or_else}
 use Rattle.fold_theory.specs.Programs.{Bricks}
 use Rattle.run_theory.specs.Outcomes.{Step}
@@ -76,7 +78,8 @@ module _ (f : FoldValue) (x : Bricks) (k : ℕ) (w c r : WorkerValue) (keeps : K
   tried_keeps = ⊎_elim
       (λ (b : (r.held.view ≡ settling_view c.held.view k Beaten r.held.view.seen) × (r.steps ≡ c.steps)).
       let steps : r.steps ≡ w.steps = b.1 ∙ same in record {
-        settled = settled_all IsSettled IsSettled w.held.view r.held.view k Beaten (beaten_is b.0) (λ e p. p) refl keeps.settled;
+        settled = settled_all IsSettled IsSettled w.held.view r.held.view k Beaten (beaten_is b.0) (λ e p. p) refl
+            keeps.settled;
         kept = settled_all (Has w.steps) (Has r.steps) w.held.view r.held.view k Beaten (beaten_is b.0)
             (λ e p. subst (λ ss. Has ss e) (sym steps) p) (λ e. absurd (offered_beaten e)) keeps.kept;
         found = subst (All (λ s. IsFound f x s.k s)) (sym steps) keeps.found;
@@ -85,7 +88,8 @@ module _ (f : FoldValue) (x : Bricks) (k : ℕ) (w c r : WorkerValue) (keeps : K
       × (r.steps ≡ (c.steps ++ s ∷ []))).
       let steps : r.steps ≡ (w.steps ++ o.0 ∷ []) = o.3 ∙ ap (λ ss. ss ++ o.0 ∷ []) same in
       let is : o.0.k ≡ k = found_length f x k o.0 o.1 in record {
-        settled = settled_all IsSettled IsSettled w.held.view r.held.view k Offered (offered_is o.2) (λ e p. p) refl keeps.settled;
+        settled = settled_all IsSettled IsSettled w.held.view r.held.view k Offered (offered_is o.2) (λ e p. p) refl
+            keeps.settled;
         kept = subst (λ ss. HasSteps ss r.held.view.owned) (sym steps)
             (settled_all (Has w.steps) (Has (w.steps ++ o.0 ∷ [])) w.held.view r.held.view k Offered (offered_is o.2)
             (λ e p q. let t = p q in (t.0, Contains-append_left w.steps (o.0 ∷ []) t.0 t.1, t.2))
@@ -142,8 +146,8 @@ pub nearer : (top k a b : ℕ) → k < top → a ≤ k → k < b → top - b < t
 nearer top k a b low le above = omega (arith, low, le, above)
 
 -- a claim past the last length ends the work
-pub finished_keeps : (f : FoldValue) (x : Bricks) (w r : WorkerValue) → Keeps f x w → r.held.view ≡ finished_view w.held.view
-    → r.steps ≡ w.steps → Keeps f x r
+pub finished_keeps : (f : FoldValue) (x : Bricks) (w r : WorkerValue) → Keeps f x w
+    → r.held.view ≡ finished_view w.held.view → r.steps ≡ w.steps → Keeps f x r
 finished_keeps f x w r keeps view steps = record {
   settled = subst (All IsSettled) (sym (ap (λ (v : View). v.owned) view)) keeps.settled;
   kept = subst (λ ss. HasSteps ss r.held.view.owned) (sym steps)

@@ -72,7 +72,8 @@ pub record IsOpening (f : FoldValue) (x : Bricks) (table : TableId) (others : �
   pub made : w.held.view.made ≡ others
 
 -- these workers were split off so far, each with no step, by the opening seat
-pub record IsSplitting (f : FoldValue) (x : Bricks) (table : TableId) (opening : Held) (workers : List WorkerValue) : Type 0 where
+pub record IsSplitting (f : FoldValue) (x : Bricks) (table : TableId) (opening : Held) (workers : List WorkerValue)
+    : Type 0 where
   pub of : opening.table ≡ table
   pub view : opening.view ≡ record opening_view { made = length workers }
   pub ready : All (IsReady f x table) workers
@@ -87,7 +88,8 @@ pub record IsTeam (f : FoldValue) (x : Bricks) (table : TableId) (workers : List
   pub first : IsOpening f x table (length rest) opening
 
 -- the opening worker, at its end, has still to take in these others
-pub record IsTaking (f : FoldValue) (x : Bricks) (table : TableId) (w : WorkerValue) (others : List WorkerValue) : Type 0 where
+pub record IsTaking (f : FoldValue) (x : Bricks) (table : TableId) (w : WorkerValue) (others : List WorkerValue)
+    : Type 0 where
   pub of : w.held.table ≡ table
   pub finished : w.held.view.stand ≡ Finished
   pub number : w.held.view.number ≡ 0

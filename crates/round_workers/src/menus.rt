@@ -75,7 +75,8 @@ impl<'a> RunMenus<'a> {
         ensures answer { IfOk result (IsStepAnswer fold.now point.now k (B.last bound.new)) }
         ensures kept { B.later bound.old bound.new }
         ensures rising { moves.old ≤ moves.new }
-        ensures counted { moves.new ≤ moves.old + length fold.now.program.bricks * (length fold.now.sums * length fold.now.sums) }
+        ensures counted { moves.new ≤
+            moves.old + length fold.now.program.bricks * (length fold.now.sums * length fold.now.sums) }
     {
         let lengths = count(fold.program().widest());
         prove!(k < lengths);

@@ -1,9 +1,8 @@
 //! The whole round.
 
 ghost use Rattle.std.specs.Prelude.{◌≡◌, ◌≢◌, ◌≤◌, All, Contains, IfOk, IfSome, IfNone};
-ghost use Rattle.lattice_theory.specs.SignedSums.{vectors};
-ghost use Rattle.run_theory.specs.Bests.{AreGains, IsRuleStep};
-ghost use Rattle.round_workers.specs.Tasks.{IsTask};
+ghost use Rattle.run_theory.specs.Bests.{IsRuleStep};
+ghost use Rattle.round_workers.specs.Tasks.{IsTask, HasGains};
 
 use crate::task::Task;
 use crate::teams::{all_done, joined, team, walked};
@@ -45,7 +44,7 @@ fn round_in<N: Gains + Send + Sync, R: Threads + Sync, G: Gate>(
     gate: &G,
 ) -> Result<Option<Step>, AllocError>
     requires task { IsTask task.now.fold.now task.now.point.now task.now.menus.now }
-    requires gains { AreGains task.now.fold.now.program task.now.fold.now.phase (vectors task.now.fold.now.sums) task.now.point.now N.gains }
+    requires gains { HasGains task.now.fold.now task.now.point.now N.gains }
     requires least { 1 ≤ workers }
     requires most { workers ≤ 16 }
     ensures { IfOk result (IsRuleStep task.now.fold.now task.now.point.now) }

@@ -1,12 +1,10 @@
 //! The workers of a round.
 
 ghost use Rattle.std.specs.Prelude.{◌≡◌, ◌≢◌, ℕ, ◌<◌, ◌≤◌, ◌++◌, length, All, Ok, IfOk, OnOk, map, slice_index_or};
-ghost use Rattle.lattice_theory.specs.SignedSums.{vectors};
-ghost use Rattle.run_theory.specs.Bests.{AreGains};
 ghost use Rattle.board_laws.specs.Views.{opening_view, joined_view};
 ghost use Rattle.board_laws.specs.Closing.{MayClose};
 ghost use Rattle.round_core.specs.declared.parts.Stand.TheVariants.{Finished};
-ghost use Rattle.round_workers.specs.Tasks.{IsTask};
+ghost use Rattle.round_workers.specs.Tasks.{IsTask, HasGains};
 ghost use Rattle.round_workers.specs.Workers.{WorkerValue, Keeps, IsReady, IsDone, IsSplitOff, IsOpening, IsTeam};
 
 use crate::task::Task;
@@ -61,18 +59,19 @@ pub(crate) fn walked<N: Gains + Send + Sync, R: Threads + Sync, G: Gate>(
     workers: Vec<Worker<N>>,
 ) -> Result<Vec<Result<Worker<N>, AllocError>>, AllocError>
     requires task { IsTask task.now.fold.now task.now.point.now task.now.menus.now }
-    requires gains { AreGains task.now.fold.now.program task.now.fold.now.phase (vectors task.now.fold.now.sums) task.now.point.now N.gains }
+    requires gains { HasGains task.now.fold.now task.now.point.now N.gains }
     requires ready { All (IsReady task.now.fold.now task.now.point.now board.now) workers.items }
     ensures count { IfOk result (λ v. length v.items ≡ length workers.items) }
     ensures each { IfOk result (λ v. (i : ℕ) (d : WorkerValue) (e : _) → i < length workers.items →
-        IfOk (slice_index_or v.items i e) (IsDone task.now.fold.now task.now.point.now (slice_index_or workers.items i d))) }
+        IfOk (slice_index_or v.items i e)
+        (IsDone task.now.fold.now task.now.point.now (slice_index_or workers.items i d))) }
 {
     thread::map_vec(
         rt,
         workers,
         &|worker: Worker<N>| -> Result<Worker<N>, AllocError>
             requires task { IsTask task.now.fold.now task.now.point.now task.now.menus.now }
-            requires gains { AreGains task.now.fold.now.program task.now.fold.now.phase (vectors task.now.fold.now.sums) task.now.point.now N.gains }
+            requires gains { HasGains task.now.fold.now task.now.point.now N.gains }
             requires ready { IsReady task.now.fold.now task.now.point.now board.now worker }
             ensures { IfOk result (IsDone task.entry.now.fold.now task.entry.now.point.now worker) }
         { work(board, alloc, task, gate, worker) },

@@ -1,15 +1,13 @@
 //! One worker.
 
 ghost use Rattle.std.specs.Prelude.{◌≡◌, ℕ, ◌<◌, [], ◌∷◌, ◌++◌, length, All, Option, Some, None, IfOk, IfSome, IfNone};
-ghost use Rattle.lattice_theory.specs.SignedSums.{vectors};
 ghost use Rattle.run_theory.specs.Outcomes as outcomes;
-ghost use Rattle.run_theory.specs.Bests.{AreGains};
 ghost use Rattle.round_core.specs.declared.parts.Fate.TheVariants.{Open, Offered, Beaten};
 ghost use Rattle.round_core.specs.declared.parts.Stand.TheVariants.{Working};
 ghost use Rattle.brick_dp.specs.declared.answers.StepAnswer.TheVariants as answers;
 ghost use Rattle.board_laws.specs.Indexes.{length_key, index_key, IsOutdone};
 ghost use Rattle.board_laws.specs.Views.{HasFate, taking_view, finished_view, settling_view};
-ghost use Rattle.round_workers.specs.Tasks.{IsTask};
+ghost use Rattle.round_workers.specs.Tasks.{IsTask, HasGains};
 ghost use Rattle.round_workers.specs.Workers.{IsReady, HasTried, IsDone};
 
 use crate::looking::Looking;
@@ -45,7 +43,7 @@ pub(crate) fn work<N: Gains, G: Gate>(
     mut worker: Worker<N>,
 ) -> Result<Worker<N>, AllocError>
     requires task { IsTask task.now.fold.now task.now.point.now task.now.menus.now }
-    requires gains { AreGains task.now.fold.now.program task.now.fold.now.phase (vectors task.now.fold.now.sums) task.now.point.now N.gains }
+    requires gains { HasGains task.now.fold.now task.now.point.now N.gains }
     requires ready { IsReady task.now.fold.now task.now.point.now board.now worker }
     ensures { IfOk result (IsDone task.now.fold.now task.now.point.now worker) }
 {
@@ -79,7 +77,7 @@ fn tried<N: Gains, G: Gate>(
     k: u32,
 ) -> Result<Worker<N>, AllocError>
     requires task { IsTask task.now.fold.now task.now.point.now task.now.menus.now }
-    requires gains { AreGains task.now.fold.now.program task.now.fold.now.phase (vectors task.now.fold.now.sums) task.now.point.now N.gains }
+    requires gains { HasGains task.now.fold.now task.now.point.now N.gains }
     requires seat { worker.held.table ≡ board.now }
     requires fate { HasFate k Open worker.held.view.owned }
     requires length { k < length N.gains }
@@ -116,7 +114,8 @@ fn reported<N: Gains>(
 ) -> (Seat<N>, Option<Step>)
     requires seat { seat.table ≡ board.now }
     requires fate { HasFate k Open seat.view.owned }
-    requires key { (s : outcomes.Step) → answer ≡ answers.Found s → length_key N.gains k ≡ Some (record { gain = s.gain; k = k }) }
+    requires key { (s : outcomes.Step) → answer ≡ answers.Found s →
+        length_key N.gains k ≡ Some (record { gain = s.gain; k = k }) }
     requires outdone { answer ≡ answers.Beaten → IsOutdone N.gains k (index_key N.gains seat.view.seen) }
     ensures table { result.0.table ≡ seat.table }
     ensures offered { IfSome result.1 (λ s. (answer ≡ answers.Found s)

@@ -8,13 +8,13 @@ loop-other-init g c =
 
 pub take_in-requires-clause-other : goal.take_in-requires-clause-other
 take_in-requires-clause-other g c =
-    (taking_number c.args.task.now.fold.now c.args.task.now.point.now c.args.board.now c.loop-other.opening c.in-Some.other
-    c.loop-other.others.items _ c.loop-other.invariant c.in-Some.ensures.items).0
+    (taking_number c.args.task.now.fold.now c.args.task.now.point.now c.args.board.now c.loop-other.opening
+    c.in-Some.other c.loop-other.others.items _ c.loop-other.invariant c.in-Some.ensures.items).0
 
 pub take_in-requires-clause-split_off : goal.take_in-requires-clause-split_off
 take_in-requires-clause-split_off g c =
-    (taking_number c.args.task.now.fold.now c.args.task.now.point.now c.args.board.now c.loop-other.opening c.in-Some.other
-    c.loop-other.others.items _ c.loop-other.invariant c.in-Some.ensures.items).1
+    (taking_number c.args.task.now.fold.now c.args.task.now.point.now c.args.board.now c.loop-other.opening
+    c.in-Some.other c.loop-other.others.items _ c.loop-other.invariant c.in-Some.ensures.items).1
 
 pub loop-other-preserved : goal.loop-other-preserved
 loop-other-preserved g c =

@@ -12,8 +12,8 @@ loop-made-preserved g c =
     let more = c.in_ok-push.ensures.items in
     let n = ap length more ∙ length-append all (w ∷ []) in (
       splitting_more c.args.task.now.fold.now c.args.task.now.point.now c.args.board.now c.loop-made.opening
-          c.split-seat.new.seat all c.push.new.self.items w c.loop-made.invariant.0 split.table split.view split.fresh_table
-          split.fresh c.new.ensures.items more,
+          c.split-seat.new.seat all c.push.new.self.items w c.loop-made.invariant.0 split.table split.view
+          split.fresh_table split.fresh c.new.ensures.items more,
       omega (arith, n, c.loop-made.invariant.1),
       omega (arith, c.loop-made-test.true),
       refl,
@@ -22,11 +22,13 @@ loop-made-preserved g c =
 pub returns-clause-ready : goal.returns-clause-ready
 returns-clause-ready g c =
     let w : WorkerValue = record { held = c.loop-made.opening; steps = c.new-2.result.items } in
-    team_ready c.args.task.now.fold.now c.args.task.now.point.now c.args.board.now c.loop-made.opening c.loop-made.all.items
-    c.push-2.new.self.items w c.loop-made.invariant.0 refl c.new-2.ensures.items c.in_ok-push-2.ensures.items
+    team_ready c.args.task.now.fold.now c.args.task.now.point.now c.args.board.now c.loop-made.opening
+    c.loop-made.all.items c.push-2.new.self.items w c.loop-made.invariant.0 refl c.new-2.ensures.items
+    c.in_ok-push-2.ensures.items
 
 pub returns-clause-team : goal.returns-clause-team
 returns-clause-team g c =
     let w : WorkerValue = record { held = c.loop-made.opening; steps = c.new-2.result.items } in
-    team_whole c.args.task.now.fold.now c.args.task.now.point.now c.args.board.now c.loop-made.opening c.loop-made.all.items
-    c.push-2.new.self.items w c.loop-made.invariant.0 refl c.new-2.ensures.items c.in_ok-push-2.ensures.items
+    team_whole c.args.task.now.fold.now c.args.task.now.point.now c.args.board.now c.loop-made.opening
+    c.loop-made.all.items c.push-2.new.self.items w c.loop-made.invariant.0 refl c.new-2.ensures.items
+    c.in_ok-push-2.ensures.items

@@ -3,7 +3,8 @@ use Rattle.round_core.specs.declared.parts.Fate.TheVariants.{Open}
 use Rattle.board_laws.specs.declared.views.View.{View}
 use Rattle.board_laws.specs.Views.{HasFate}
 use Rattle.round_workers.specs.Workers.{ceiling}
-use Rattle.round_workers.proofs.Steps.{claimed_has, tried_keeps, tried_same, tried_ceiling, ceiling_below, nearer, finished_keeps}
+use Rattle.round_workers.proofs.Steps.{claimed_has, tried_keeps, tried_same, tried_ceiling, ceiling_below, nearer}
+use Rattle.round_workers.proofs.Steps.{finished_keeps}
 use Rattle.round_workers.proofs.workers.work.Goals as goal
 
 pub tried-requires-clause-fate : goal.tried-requires-clause-fate
@@ -13,33 +14,34 @@ tried-requires-clause-fate g c _ _ =
 
 pub loop-k-smaller : goal.loop-k-smaller
 loop-k-smaller g c =
-    let f = c.args.task.now.fold.now in
-    let x = c.args.task.now.point.now in
-    let r = tried_ceiling f x c.in-Some.k c.loop-k.worker c.claimed.new.worker c.in_ok-worker.worker c.loop-k.invariant.2
-    c.in-Some.ensures.claimed c.in-Some.ensures.steps c.in_ok-worker.ensures in
+    let claimed = c.in-Some.ensures in
+    let r = tried_ceiling c.args.task.now.fold.now c.args.task.now.point.now c.in-Some.k c.loop-k.worker
+    c.claimed.new.worker c.in_ok-worker.worker c.loop-k.invariant.2 claimed.claimed claimed.steps
+    c.in_ok-worker.ensures in
     nearer _ c.in-Some.k (ceiling c.loop-k.worker.held.view.owned) (ceiling c.in_ok-worker.worker.held.view.owned)
-    c.in-Some.ensures.length (ceiling_below c.in-Some.k c.loop-k.worker.held.view.owned c.in-Some.ensures.rising) r
+    claimed.length (ceiling_below c.in-Some.k c.loop-k.worker.held.view.owned claimed.rising) r
 
 pub loop-k-preserved : goal.loop-k-preserved
 loop-k-preserved g c =
     let f = c.args.task.now.fold.now in
     let x = c.args.task.now.point.now in
-    let keeps = tried_keeps f x c.in-Some.k c.loop-k.worker c.claimed.new.worker c.in_ok-worker.worker c.loop-k.invariant.2
-    c.in-Some.ensures.claimed c.in-Some.ensures.steps c.in_ok-worker.ensures in (
-      c.in_ok-worker.ensures.of ∙ c.in-Some.ensures.table ∙ c.loop-k.invariant.0,
-      tried_same f x c.in-Some.k c.loop-k.worker c.claimed.new.worker c.in_ok-worker.worker c.loop-k.invariant.2
-          c.in-Some.ensures.claimed c.in-Some.ensures.steps c.in_ok-worker.ensures (λ (v : View). v.stand) (λ v fate i. refl)
-          ∙ c.loop-k.invariant.1,
-      keeps,
-      tried_same f x c.in-Some.k c.loop-k.worker c.claimed.new.worker c.in_ok-worker.worker c.loop-k.invariant.2
-          c.in-Some.ensures.claimed c.in-Some.ensures.steps c.in_ok-worker.ensures (λ (v : View). v.number) (λ v fate i. refl)
-          ∙ c.loop-k.invariant.3,
-      tried_same f x c.in-Some.k c.loop-k.worker c.claimed.new.worker c.in_ok-worker.worker c.loop-k.invariant.2
-          c.in-Some.ensures.claimed c.in-Some.ensures.steps c.in_ok-worker.ensures (λ (v : View). v.joined) (λ v fate i. refl)
-          ∙ c.loop-k.invariant.4,
-      tried_same f x c.in-Some.k c.loop-k.worker c.claimed.new.worker c.in_ok-worker.worker c.loop-k.invariant.2
-          c.in-Some.ensures.claimed c.in-Some.ensures.steps c.in_ok-worker.ensures (λ (v : View). v.made) (λ v fate i. refl)
-          ∙ c.loop-k.invariant.5,
+    let k = c.in-Some.k in
+    let w = c.loop-k.worker in
+    let d = c.claimed.new.worker in
+    let r = c.in_ok-worker.worker in
+    let before = c.loop-k.invariant in
+    let claimed = c.in-Some.ensures in
+    let tried = c.in_ok-worker.ensures in (
+      tried.of ∙ claimed.table ∙ before.0,
+      tried_same f x k w d r before.2 claimed.claimed claimed.steps tried (λ (v : View). v.stand) (λ v fate i. refl)
+          ∙ before.1,
+      tried_keeps f x k w d r before.2 claimed.claimed claimed.steps tried,
+      tried_same f x k w d r before.2 claimed.claimed claimed.steps tried (λ (v : View). v.number) (λ v fate i. refl)
+          ∙ before.3,
+      tried_same f x k w d r before.2 claimed.claimed claimed.steps tried (λ (v : View). v.joined) (λ v fate i. refl)
+          ∙ before.4,
+      tried_same f x k w d r before.2 claimed.claimed claimed.steps tried (λ (v : View). v.made) (λ v fate i. refl)
+          ∙ before.5,
     )
 
 pub returns : goal.returns

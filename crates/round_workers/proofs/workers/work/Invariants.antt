@@ -7,7 +7,8 @@ abbrev pub invariant-loop-k : goal.invariant-loop-k
 invariant-loop-k g l =
     (l.worker.held.table ≡ l.fn.worker.held.table) × (l.worker.held.view.stand ≡ Working)
     × Keeps l.task.fold.now l.task.point.now l.worker
-    × (l.worker.held.view.number ≡ l.fn.worker.held.view.number) × (l.worker.held.view.joined ≡ l.fn.worker.held.view.joined)
+    × (l.worker.held.view.number ≡ l.fn.worker.held.view.number)
+    × (l.worker.held.view.joined ≡ l.fn.worker.held.view.joined)
     × (l.worker.held.view.made ≡ l.fn.worker.held.view.made)
 
 -- the greatest length that the worker owns comes nearer to the last one
