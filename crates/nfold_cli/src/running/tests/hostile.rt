@@ -211,7 +211,8 @@ enum Damage {
 /// Adds a token with a space behind it.
 fn append(text: &mut Vec<u8>, token: &[u8]) -> Result<(), AllocError> {
     text.extend_from_slice(token)?;
-    text.push(b' ')
+    text.push(b' ')?;
+    Ok(())
 }
 
 /// The text of the tokens, of which this one is damaged.
