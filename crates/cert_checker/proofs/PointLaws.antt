@@ -7,8 +7,9 @@ use Rattle.lattice_theory.specs.Matrices.{rows_of}
 use Rattle.fold_theory.specs.Programs.{Program, Brick, Bricks, AreWithin, is_within}
 use Rattle.fold_program.specs.Places.{OfBrick}
 use Rattle.fold_program.specs.Points.{IsPoint}
+use Rattle.fold_program.proofs.PlaceLaws.{within_is}
 use Rattle.listed_links.proofs.RowLaws.{Stands, stands-length, stands-rows}
-use Rattle.listed_potentials.proofs.RowLaws.{zip-at, within_is}
+use Rattle.listed_potentials.proofs.RowLaws.{zip-at}
 use Rattle.cert_checker.specs.Folds.{IsPointOf}
 use Rattle.cert_checker.proofs.ShapeLaws.{and_true}
 
