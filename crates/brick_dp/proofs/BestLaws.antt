@@ -1,5 +1,5 @@
 -- The best step of one length, or none, and the answer under a bound.
-use Rattle.std.proofs.Common.{◌≡◌, ℕ, ◌+◌, ◌-◌, ℤ, pos, ◌-ℤ◌, ◌≤ℤ◌, ◌<ℤ◌, Bool, true, false, List, [], ◌∷◌, length, drop, refl, ap, arith, sym, ◌∙◌, Some, None, Option, slice_get, subst, All, IsTrue, unsigned_abs, inl, inr, int_lt, cond}
+use Rattle.std.proofs.Common.{◌≡◌, ℕ, ◌+◌, ◌-◌, ℤ, pos, ◌-ℤ◌, ◌<ℤ◌, Bool, true, false, List, [], ◌∷◌, length, drop, refl, ap, arith, sym, ◌∙◌, Some, None, Option, slice_get, subst, All, IsTrue, unsigned_abs, inl, inr, int_lt, cond}
 use Rattle.std.proofs.lemmas.Int.{ints}
 use Rattle.std.specs.Ordering.{int_cmp, nat_cmp, ordering_then, is_le}
 use Rattle.std.specs.Cmp.Lexicographic.{slice_cmp}
@@ -21,7 +21,6 @@ use Rattle.brick_dp.specs.Needs.{NoneGains, IsStepUnder}
 use Rattle.brick_dp.proofs.NeedLaws.{best_found}
 use Rattle.sieve_laws.specs.Sieve.{Layer}
 use Rattle.brick_dp.specs.Tables.{AreLayers}
-use Rattle.brick_dp.proofs.ChangeLaws.{at_same}
 
 -- ---- answers
 

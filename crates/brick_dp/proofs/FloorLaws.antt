@@ -1,6 +1,6 @@
 -- By how much the moves of all bricks lower the cost at most, each brick taken by itself.
 use Rattle.std.proofs.Common.{◌≡◌, ℕ, zero, suc, ◌+◌, ◌-◌, ◌*◌, ◌^◌, ◌<◌, ◌≤◌, ℤ, pos, ◌+ℤ◌, ◌-ℤ◌, ◌≤ℤ◌, ◌<ℤ◌, Bool, true, false, cond, int_lt, List, [], ◌∷◌}
-use Rattle.std.proofs.Common.{length, take, drop, map, sum_by, refl, ap, arith, sym, ◌∙◌, Some, None, Option, slice_get, subst, All, Contains, ◌⊎◌, inl, inr}
+use Rattle.std.proofs.Common.{length, take, drop, map, sum_by, refl, ap, arith, sym, ◌∙◌, Some, None, Option, slice_get, subst, Contains, ◌⊎◌, inl, inr}
 use Rattle.std.proofs.Common.{unsigned_abs}
 use Rattle.std.specs.List.{filter}
 use Rattle.std.specs.Int.{int_min}
@@ -27,7 +27,6 @@ use Rattle.sieve_laws.specs.declared.PricedMove.{PricedMove}
 use Rattle.sieve_laws.specs.Sieve.{Menu, IsMenu, after}
 use Rattle.sieve_laws.specs.Sieve.{Layer}
 use Rattle.brick_dp.specs.Tables.{IsLayer}
-use Rattle.brick_dp.specs.Menus.{IsBrickMenu}
 use Rattle.run_theory.specs.declared.Key.{Key}
 use Rattle.run_theory.specs.Keys.{IsNoWorse}
 use Rattle.brick_dp.specs.Needs.{IsLeastOf, AreAbove, NoneGains, HasHope, NoneLives}

@@ -1,6 +1,6 @@
 -- The best step from the best walk, and the answer where no walk lowers the cost by what is needed.
-use Rattle.std.proofs.Common.{◌≡◌, ℕ, ◌^◌, ◌<◌, ◌≤◌, ℤ, pos, ◌-ℤ◌, ◌≤ℤ◌, ◌<ℤ◌, Bool, true, false, not, List, [], ◌∷◌, length, refl, ap, arith, sym, ◌∙◌}
-use Rattle.std.proofs.Common.{Some, None, Option, subst, All, ◌⊎◌, inl, inr, IsTrue, unsigned_abs, int_lt}
+use Rattle.std.proofs.Common.{◌≡◌, ℕ, ◌^◌, ◌<◌, ℤ, pos, ◌-ℤ◌, ◌≤ℤ◌, ◌<ℤ◌, Bool, true, false, not, List, length, refl, ap, arith, sym, ◌∙◌}
+use Rattle.std.proofs.Common.{Some, None, Option, subst, All, inl, inr, unsigned_abs, int_lt}
 use Rattle.std.proofs.lemmas.Int.{ints}
 use Rattle.std.proofs.lemmas.Bool.Decides.{nat_tests}
 use Rattle.walk_laws.proofs.Candidates.{widths_within}
@@ -9,8 +9,8 @@ use Rattle.lattice_theory.specs.SignedSums.{vectors}
 use Rattle.fold_theory.specs.Programs.{IsProgram, AreWithin, Bricks, link_rests, IsLength}
 use Rattle.run_theory.specs.declared.Key.{Key}
 use Rattle.run_theory.specs.Keys.{beaten, IsNoWorse}
-use Rattle.run_theory.specs.Outcomes.{Step, step_at, nonzero_from, nonzero_entries}
-use Rattle.run_theory.specs.Steps.{gain, Augments, rule_cmp}
+use Rattle.run_theory.specs.Outcomes.{step_at, nonzero_from, nonzero_entries}
+use Rattle.run_theory.specs.Steps.{gain, Augments}
 use Rattle.run_theory.specs.Folds.{FoldValue}
 use Rattle.run_theory.specs.Bests.{IsFound, IsBeaten}
 use Rattle.walk_laws.proofs.BestWalks.{IsBestWalk}

@@ -1,5 +1,5 @@
 -- The table of all layers has the least costs of walks.
-use Rattle.std.proofs.Common.{◌≡◌, ℕ, ◌+◌, ◌-◌, ◌^◌, ◌<◌, ◌≤◌, ℤ, List, [], length, reverse, drop, refl, ap, arith, sym, ◌∙◌, Some, None, Option, slice_get, subst, All, get_or}
+use Rattle.std.proofs.Common.{◌≡◌, ℕ, ◌+◌, ◌-◌, ◌^◌, ◌<◌, ◌≤◌, ℤ, List, [], length, reverse, drop, ap, arith, sym, ◌∙◌, Some, None, Option, slice_get, subst, All, get_or}
 use Rattle.std.proofs.lemmas.List.{length-map, length-reverse, get_or-reverse}
 use Rattle.std.proofs.lemmas.Option.{slice_get-get_or, slice_get_within, get_or_from_slice_get}
 use Rattle.lattice_theory.specs.Vectors.{Vector}

@@ -1,17 +1,11 @@
 -- What is answered for one length.
-use Rattle.std.specs.Prelude.{ℕ, Option, Some, None}
+use Rattle.std.specs.Prelude.{ℕ, Option}
 use Rattle.run_theory.specs.declared.Key.{Key}
 use Rattle.fold_theory.specs.Programs.{Bricks}
-use Rattle.run_theory.specs.Outcomes.{Step}
 use Rattle.run_theory.specs.Folds.{FoldValue}
-use Rattle.run_theory.specs.Bests.{IsFound, NoneOfLength, IsBeaten}
+use Rattle.run_theory.specs.Bests.{IsFound, IsBeaten}
 use Rattle.brick_dp.specs.declared.answers.StepAnswer.{StepAnswer}
 use Rattle.brick_dp.specs.declared.answers.StepAnswer.TheVariants.{Found, Beaten}
-
--- the best step of that length, where one gains
-abbrev pub IsBestStep : FoldValue → Bricks → ℕ → Option Step → Type 0
-IsBestStep f x k None = NoneOfLength f x k
-IsBestStep f x k (Some s) = IsFound f x k s
 
 -- what is answered for that length under the bound
 abbrev pub IsStepAnswer : FoldValue → Bricks → ℕ → Option Key → StepAnswer → Type 0

@@ -1,11 +1,10 @@
-use Rattle.std.proofs.Common.{◌≡◌, ◌∙◌, ℤ, pos, ◌≤ℤ◌, ◌+◌, ap, sym, subst, arith, rules, true, false, length, slice_get, Some, None, FitsSigned, List, Option}
+use Rattle.std.proofs.Common.{◌≡◌, ◌+◌, subst, rules, true, length, slice_get, Some, FitsSigned, List, Option}
 use Rattle.std.specs.Int.{w128}
-use Rattle.std.proofs.lemmas.Int.{ints, to_z-of_z, fits_signed_from_abs}
-use Rattle.std.proofs.lemmas.Bool.{OnFalse_at}
+use Rattle.std.proofs.lemmas.Int.{to_z-of_z}
 use Rattle.std.proofs.lemmas.Option.{slice_get_within, get_or_from_slice_get}
 use Rattle.lattice_theory.specs.SignedSums.{Sum, vectors}
 use Rattle.lattice_theory.specs.Vectors.{zeros, is_rising}
-use Rattle.fold_theory.specs.Programs.{Program, IsProgram}
+use Rattle.fold_theory.specs.Programs.{IsProgram}
 use Rattle.run_theory.specs.declared.Key.{Key}
 use Rattle.brick_sums.specs.Places.{width}
 use Rattle.std.proofs.lemmas.Option.{MatchOption-at_none}

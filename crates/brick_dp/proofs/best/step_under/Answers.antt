@@ -1,4 +1,4 @@
-use Rattle.std.proofs.Common.{◌≡◌, ◌∙◌, ◌≤◌, ◌<◌, ◌^◌, ◌≤ℤ◌, ◌<ℤ◌, ◌-ℤ◌, ℤ, pos, ap, sym, subst, arith, rules, length, slice_get, Some, None, FitsSigned, unsigned_abs, List, Option}
+use Rattle.std.proofs.Common.{◌≡◌, ◌∙◌, ◌≤◌, ◌^◌, ◌≤ℤ◌, ◌<ℤ◌, ◌-ℤ◌, pos, ap, sym, subst, arith, rules, length, slice_get, Some, None, FitsSigned, List}
 use Rattle.std.specs.Int.{w128}
 use Rattle.std.proofs.lemmas.Int.{ints, to_z-of_z, fits_signed_from_abs}
 use Rattle.std.proofs.lemmas.Option.{slice_get_within}
@@ -7,9 +7,8 @@ use Rattle.lattice_theory.specs.Vectors.{zeros}
 use Rattle.fold_theory.specs.Programs.{Program, IsProgram}
 use Rattle.fold_program.specs.Refusals.{total_magnitude}
 use Rattle.brick_sums.specs.Places.{width}
-use Rattle.layer_sieve.specs.Reaching.{AreAtMost}
 use Rattle.layer_sieve.proofs.ReachLaws.{read_at}
-use Rattle.brick_dp.specs.Tables.{IsLayer, IsFirstCost}
+use Rattle.brick_dp.specs.Tables.{IsFirstCost}
 use Rattle.brick_dp.proofs.FillLaws.{most_small}
 use Rattle.brick_dp.proofs.BestLaws.{first_walk, none_walks, none_lowers, found_gain, zero_at}
 use Rattle.brick_dp.proofs.best.step_under.Goals as goal

@@ -1,6 +1,6 @@
-use Rattle.std.proofs.Common.{◌≡◌, ◌∙◌, ◌+◌, ◌-◌, ◌*◌, ◌≤◌, ◌^◌, ◌<◌, ◌-ℤ◌, ℤ, pos, unsigned_abs, FitsSigned, to_z, Option, ap, sym, arith, rules, length, subst, slice_get, Some, None, ◌∷◌, [], ◌++◌, List, All, replicate}
+use Rattle.std.proofs.Common.{◌≡◌, ◌∙◌, ◌+◌, ◌-◌, ◌*◌, ◌≤◌, ◌^◌, ◌<◌, ◌-ℤ◌, ℤ, pos, FitsSigned, to_z, Option, ap, sym, arith, rules, length, subst, slice_get, Some, None, ◌∷◌, [], ◌++◌, List, All, replicate}
 use Rattle.std.specs.Int.{w128}
-use Rattle.std.proofs.lemmas.Int.{ints, to_z-of_z, fits_signed_from_abs}
+use Rattle.std.proofs.lemmas.Int.{to_z-of_z, fits_signed_from_abs}
 use Rattle.std.proofs.lemmas.List.{length-map}
 use Rattle.lattice_theory.specs.SignedSums.{Sum, vectors}
 use Rattle.lattice_theory.specs.Vectors.{Vector, zeros}

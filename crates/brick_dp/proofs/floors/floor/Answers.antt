@@ -1,8 +1,8 @@
-use Rattle.std.proofs.Common.{◌≡◌, ◌∙◌, ◌+◌, ◌-◌, ◌*◌, ◌≤◌, ◌^◌, ◌+ℤ◌, ap, sym, arith, rules, subst, slice_get, length, sum_by, drop, unsigned_abs, FitsSigned, to_z, Some}
+use Rattle.std.proofs.Common.{◌≡◌, ◌∙◌, ◌+◌, ◌-◌, ◌*◌, ◌≤◌, ◌^◌, ◌+ℤ◌, ap, sym, arith, rules, subst, slice_get, length, FitsSigned, to_z}
 use Rattle.std.specs.Int.{w128}
 use Rattle.std.proofs.lemmas.Int.{to_z-of_z, fits_signed_from_abs}
 use Rattle.fold_theory.specs.Programs.{Program, IsProgram}
-use Rattle.fold_program.specs.Refusals.{brick_magnitude, total_magnitude}
+use Rattle.fold_program.specs.Refusals.{total_magnitude}
 use Rattle.brick_dp.proofs.FillLaws.{at_brick, AtBrick}
 use Rattle.brick_dp.proofs.FloorLaws.{floor_more, floor_small}
 use Rattle.brick_dp.proofs.floors.floor.Goals as goal

@@ -1,7 +1,7 @@
-use Rattle.std.proofs.Common.{◌≡◌, ◌^◌, ◌≤◌, ◌∙◌, ap, sym, subst, length, slice_get, Some, List, All, Contains}
+use Rattle.std.proofs.Common.{◌≡◌, ◌^◌, ◌≤◌, ◌∙◌, ap, sym, subst, length, slice_get, Some, List, All}
 use Rattle.std.proofs.lemmas.Option.{slice_get_within, get_or_from_slice_get}
 use Rattle.lattice_theory.specs.SignedSums.{Sum, vectors}
-use Rattle.lattice_theory.specs.Vectors.{Vector, zeros}
+use Rattle.lattice_theory.specs.Vectors.{zeros}
 use Rattle.fold_theory.specs.Programs.{Program}
 use Rattle.fold_program.specs.Refusals.{total_magnitude}
 use Rattle.run_theory.specs.Certificates.{Table}
