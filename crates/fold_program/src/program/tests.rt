@@ -112,15 +112,15 @@ fn cost_within(program: &Program, brick: u32, col: u32, v: i64) -> Option<i128>
 }
 
 /// The cost of a brick at a vector, where that is within the brick's bounds.
-fn brick_cost_within(program: &Program, brick: u32, vector: [i64; 2]) -> Option<i128>
+fn brick_cost_within(program: &Program, brick: u32, vector: &[i64]) -> Option<i128>
     requires from { 1 ≤ brick }
     requires to { brick ≤ length program.now.bricks }
-    requires width { program.now.link.cols ≡ 2 }
+    requires width { length vector.now ≡ program.now.link.cols }
 {
-    if !program.is_within(brick, vector.as_slice()) {
+    if !program.is_within(brick, vector) {
         return None;
     }
-    Some(program.brick_cost(brick, vector.as_slice()))
+    Some(program.brick_cost(brick, vector))
 }
 
 /// The point with these entries, brick by brick.
@@ -276,9 +276,9 @@ fn a_brick_costs_what_its_columns_cost(rt: HostRuntime) -> Result<(), Fail> {
     let program = program(rt.alloc())?;
     assert_eq!(rt; program.n(), 2);
     assert_eq!(rt; program.t(), 2);
-    assert_eq!(rt; brick_cost_within(&program, 1, [3, 2]), Some(9));
-    assert_eq!(rt; brick_cost_within(&program, 2, [4, 0]), Some(16));
-    assert_eq!(rt; brick_cost_within(&program, 2, [4, 5]), None);
+    assert_eq!(rt; brick_cost_within(&program, 1, &[3, 2]), Some(9));
+    assert_eq!(rt; brick_cost_within(&program, 2, &[4, 0]), Some(16));
+    assert_eq!(rt; brick_cost_within(&program, 2, &[4, 5]), None);
     Ok(())
 }
 
