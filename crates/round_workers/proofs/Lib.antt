@@ -3,3 +3,4 @@ pub mod Steps
 pub mod Known
 pub mod Joining
 pub mod Finding
+pub mod TableLaws

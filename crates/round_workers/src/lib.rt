@@ -14,3 +14,6 @@ pub use fold_shelf::Gate;
 pub use menus::RunMenus;
 pub use rounds::round;
 pub use task::Task;
+
+#[cfg(test)]
+mod tests;
