@@ -93,7 +93,7 @@ fn certified(
 }
 
 /// The answer where a limit is passed.
-pub(crate) fn limit_answer(alloc: Global, fault: SolveFault) -> Result<Answer, AllocError>
+fn limit_answer(alloc: Global, fault: SolveFault) -> Result<Answer, AllocError>
     ensures found { IfOk result (λ a. fault ≢ Memory) }
     ensures ending { IfOk result (λ a. a ≡ limit_ending fault) }
 {
