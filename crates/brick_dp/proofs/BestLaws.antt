@@ -1,5 +1,5 @@
 -- The best step of one length, or none, and the answer under a bound.
-use Rattle.std.proofs.Common.{◌≡◌, ℕ, ◌+◌, ◌-◌, ℤ, pos, ◌-ℤ◌, ◌<ℤ◌, Bool, true, false, List, [], ◌∷◌, length, drop, refl, ap, arith, sym, ◌∙◌, Some, None, Option, slice_get, subst, All, IsTrue, unsigned_abs, inl, inr, int_lt, cond}
+use Rattle.std.proofs.Common.{◌≡◌, ℕ, ◌+◌, ◌-◌, ℤ, pos, ◌-ℤ◌, ◌<ℤ◌, ◌≤ℤ◌, Bool, true, false, List, [], ◌∷◌, length, refl, ap, arith, sym, ◌∙◌, Some, None, Option, slice_get, subst, All, IsTrue, unsigned_abs, inl, inr, int_lt, cond}
 use Rattle.std.proofs.lemmas.Int.{ints}
 use Rattle.std.specs.Ordering.{int_cmp, nat_cmp, ordering_then, is_le}
 use Rattle.std.specs.Cmp.Lexicographic.{slice_cmp}
@@ -19,8 +19,11 @@ use Rattle.run_theory.specs.Bests.{IsFound, IsBeaten}
 use Rattle.sieve_laws.proofs.Existence.{BestOrNone, best_or_none}
 use Rattle.brick_dp.specs.Needs.{NoneGains, IsStepUnder}
 use Rattle.brick_dp.proofs.NeedLaws.{best_found}
-use Rattle.sieve_laws.specs.Sieve.{Layer}
-use Rattle.brick_dp.specs.Tables.{AreLayers}
+use Rattle.run_theory.specs.Walks.{WalkCosts}
+use Rattle.sieve_laws.specs.Sieve.{Layer, IsAtMost, IsLayerUnder}
+use Rattle.brick_dp.specs.Tables.{IsLayer, AreLayers, limit_at}
+use Rattle.brick_dp.proofs.ChangeLaws.{at_same}
+use Rattle.brick_dp.proofs.UnderLaws.{le_or_less}
 
 -- ---- answers
 
@@ -63,28 +66,58 @@ pub zero_at : (fs : List Sum) (t at : ℕ) → All (λ w. length w ≡ t) (vecto
 zero_at [] t at widths there = absurd (cc)
 zero_at (s ∷ fs) t at widths there = let e : length s.vector ≡ t = widths 0 s.vector (omega arith) in there ∙ ap (λ n. Some (zeros n)) e
 
--- the first cell is the least cost of a walk from zero
-pub first_walk : (f : FoldValue) (x : Bricks) (k : ℕ) (layers : List Layer) → AreLayers f x k (length f.program.bricks + 1) layers →
-    (at : ℕ) (layer : Layer) (first : Option ℤ) → slice_get (vectors f.sums) at ≡ Some (zeros f.program.brick.cols) →
-    slice_get layers (length f.program.bricks) ≡ Some layer → slice_get layer at ≡ Some first →
-    IsLeastWalk f.program f.phase (vectors f.sums) k (link_rests f.program x) f.program.bricks x (zeros f.program.brick.cols) first
-first_walk f x k layers are at layer first start there cell =
-    let n = length f.program.bricks in
-    let none : n - n ≡ 0 = omega arith in
-    subst (λ i. IsLeastWalk f.program f.phase (vectors f.sums) k (link_rests f.program x) (drop i f.program.bricks) (drop i x) (zeros f.program.brick.cols) first) none
-    ((are.each n layer there).least.cells at (zeros f.program.brick.cols) first start cell)
+module _ (f : FoldValue) (x : Bricks) (k : ℕ) (need : ℤ) (layers : List Layer) (are : AreLayers f x k (length f.program.bricks + 1) need layers)
+    (at : ℕ) (layer : Layer) (start : slice_get (vectors f.sums) at ≡ Some (zeros f.program.brick.cols))
+    (there : slice_get layers (length f.program.bricks) ≡ Some layer) where
+  -- the first layer is under what is to be gained
+  first_under : IsLayerUnder f.program f.phase (vectors f.sums) k (link_rests f.program x) f.program.bricks x (pos 0 -ℤ need) layer
+  first_under =
+      let n = length f.program.bricks in
+      let none : n - n ≡ 0 = omega arith in
+      let first : limit_at f x k need 0 ≡ (pos 0 -ℤ need) = omega (arith, ints) in
+      subst (λ limit. IsLayerUnder f.program f.phase (vectors f.sums) k (link_rests f.program x) f.program.bricks x limit layer) first
+      (subst (λ i. IsLayer f x k i need layer) none (are.each n layer there)).under
 
-module _ (f : FoldValue) (x : Bricks) (k : ℕ) (need : ℤ) where
-  -- no walk from zero
-  pub none_walks : IsLeastWalk f.program f.phase (vectors f.sums) k (link_rests f.program x) f.program.bricks x (zeros f.program.brick.cols) None →
-      NoneGains f x k need
-  none_walks none h c wc = absurd (none h c wc)
+  -- a walk from zero that gains so much costs no less than the first cell
+  first_low : (h : Bricks) (c : ℤ) →
+      WalkCosts f.program f.phase (vectors f.sums) k (link_rests f.program x) f.program.bricks x (zeros f.program.brick.cols) h c →
+      c ≤ℤ (pos 0 -ℤ need) → IsAtMost layer at c
+  first_low h c wc low = first_under.least at (zeros f.program.brick.cols) h c start wc low
 
-  -- none that lowers the cost by so much
-  pub none_lowers : (total : ℤ) →
-      IsLeastWalk f.program f.phase (vectors f.sums) k (link_rests f.program x) f.program.bricks x (zeros f.program.brick.cols) (Some total) →
-      (pos 0 -ℤ need) <ℤ total → NoneGains f x k need
-  none_lowers total least high h c wc = let low = least.1 h c wc in omega (arith, ints, low, high)
+  -- where there is no first cell, none gains so much
+  pub none_walks : slice_get layer at ≡ Some None → NoneGains f x k need
+  none_walks cell h c wc = elim (le_or_less c (pos 0 -ℤ need)) [
+    | inr high ↦ high
+    | inl low ↦
+        let (a, here, _) = first_low h c wc low in
+        let same : Some a ≡ None = at_same (slice_get layer at) (Some a) None here cell in
+        absurd (cc)
+  ]
+
+  -- nor where it is above that
+  pub none_lowers : (total : ℤ) → slice_get layer at ≡ Some (Some total) → (pos 0 -ℤ need) <ℤ total → NoneGains f x k need
+  none_lowers total cell above h c wc = elim (le_or_less c (pos 0 -ℤ need)) [
+    | inr high ↦ high
+    | inl low ↦
+        let (a, here, less) = first_low h c wc low in
+        let same : a ≡ total = at_same (Some a) a total refl (at_same (slice_get layer at) (Some a) (Some total) here cell) in
+        absurd (omega (arith, ints, same, less, low, above))
+  ]
+
+  -- else it is the least cost of a walk from zero
+  pub first_walk : (total : ℤ) → slice_get layer at ≡ Some (Some total) → total ≤ℤ (pos 0 -ℤ need) →
+      IsLeastWalk f.program f.phase (vectors f.sums) k (link_rests f.program x) f.program.bricks x (zeros f.program.brick.cols) (Some total)
+  first_walk total cell enough = (first_under.walks at (zeros f.program.brick.cols) total start cell, least)
+    where
+      least : (h : Bricks) (c : ℤ) →
+          WalkCosts f.program f.phase (vectors f.sums) k (link_rests f.program x) f.program.bricks x (zeros f.program.brick.cols) h c → total ≤ℤ c
+      least h c wc = elim (le_or_less c (pos 0 -ℤ need)) [
+        | inr high ↦ omega (arith, ints, enough, high)
+        | inl low ↦
+            let (a, here, less) = first_low h c wc low in
+            let same : a ≡ total = at_same (Some a) a total refl (at_same (slice_get layer at) (Some a) (Some total) here cell) in
+            omega (arith, ints, same, less)
+      ]
 
 -- the best step gains what the least walk lowers the cost by
 pub found_gain : (f : FoldValue) (x : Bricks) (k : ℕ) → IsProgram f.program → AreWithin f.program.bricks x → f.program.brick.cols ≡ f.program.link.cols →

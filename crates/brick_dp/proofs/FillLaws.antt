@@ -1,8 +1,9 @@
--- Filling the layers: each is put behind those that were filled before.
-use Rattle.std.proofs.Common.{◌≡◌, ℕ, zero, suc, ◌+◌, ◌-◌, ◌*◌, ◌^◌, ◌<◌, ◌≤◌, ℤ, unsigned_abs, List, [], ◌∷◌, ◌++◌, length, drop, take, append-nil, sum_by, refl, ap, arith, sym, ◌∙◌, Some, None, Option, slice_get, subst, All, ◌⊎◌, inl, inr, get_or, Contains, replicate}
+-- What filling the layers stands on: points within the bounds, how large the numbers become, the last layer, and what
+-- a layer needs of the brick before it.
+use Rattle.std.proofs.Common.{◌≡◌, ℕ, zero, suc, ◌+◌, ◌^◌, ◌<◌, ◌≤◌, ℤ, unsigned_abs, List, [], ◌∷◌, ◌++◌, length, drop, take, append-nil, sum_by, refl, ap, arith, sym, ◌∙◌, Some, None, Option, slice_get, subst, All, get_or, Contains, replicate}
 use Rattle.std.proofs.lemmas.Int.{ints}
-use Rattle.std.proofs.lemmas.List.{length-append, drop_all, take_all, length-replicate}
-use Rattle.std.proofs.lemmas.List.Sums.{sum_by-cons, sum_by-take-drop}
+use Rattle.std.proofs.lemmas.List.{drop_all, take_all, length-replicate}
+use Rattle.std.proofs.lemmas.List.Sums.{sum_by-take-drop}
 use Rattle.std.proofs.lemmas.Option.{slice_get_within, get_or_from_slice_get, slice_get-get_or}
 use Rattle.std.proofs.Math.Seq.{drop-cons}
 use Rattle.lattice_theory.specs.Vectors.{Vector, zeros}
@@ -12,16 +13,16 @@ use Rattle.fold_program.specs.Points.{HasPointShape}
 use Rattle.fold_program.specs.Refusals.{brick_magnitude, total_magnitude}
 use Rattle.run_theory.specs.Folds.{FoldValue}
 use Rattle.walk_laws.proofs.Candidates.{widths_within}
-use Rattle.walk_laws.proofs.BestWalks.{IsLeastRow, IsLeastWalk, least_end}
-use Rattle.sieve_laws.specs.Sieve.{Layer, Menu, MayStay, IsLayerOver, AreTops}
-use Rattle.sieve_laws.specs.declared.PricedMove.{PricedMove}
-use Rattle.sieve_laws.proofs.Rows.{row_over, may_stay}
+use Rattle.run_theory.specs.Walks.{WalkCosts}
+use Rattle.walk_laws.proofs.BestWalks.{IsLeastWalk, least_end}
+use Rattle.sieve_laws.specs.Sieve.{Layer, Menu, MayStay, AreTops, IsAtMost, live}
+use Rattle.sieve_laws.proofs.Rows.{may_stay}
 use Rattle.sieve_laws.proofs.Tops.{tops_none}
 use Rattle.layer_sieve.specs.Reaching.{AreAtMost, IsFair}
 use Rattle.brick_dp.specs.Ends.{IsLastLayer}
 use Rattle.brick_dp.specs.Menus.{IsBrickMenu, AreMenus}
-use Rattle.brick_dp.specs.Tables.{most_from, IsLayer, AreLayers}
-use Rattle.brick_dp.proofs.ChangeLaws.{at_same, slice_get-push}
+use Rattle.brick_dp.specs.Tables.{most_from, CostsFrom, IsLayer}
+use Rattle.brick_dp.proofs.ChangeLaws.{at_same}
 use Rattle.brick_dp.proofs.CostLaws.{brick_in_total}
 
 -- ---- points within the bounds
@@ -67,9 +68,12 @@ AreAtMost-more m n numbers more most i a there = omega (arith, more, most i a th
 sum_by-drop : (bs : List Brick) (i : ℕ) → sum_by brick_magnitude (drop i bs) ≤ sum_by brick_magnitude bs
 sum_by-drop bs i = omega (arith, sum_by-take-drop brick_magnitude bs i)
 
+pub most_from-small : (p : Program) (i : ℕ) → total_magnitude p ≤ 2 ^ 120 → most_from p i ≤ 2 ^ 122
+most_from-small p i most = omega (arith, most, sum_by-drop p.bricks i)
+
 -- no walk costs more than twice all magnitudes and what its end costs
 pub most_small : (p : Program) (i : ℕ) (layer : Layer) → total_magnitude p ≤ 2 ^ 120 → AreAtMost (most_from p i) layer → AreAtMost (2 ^ 122) layer
-most_small p i layer most small = AreAtMost-more (most_from p i) (2 ^ 122) layer (omega (arith, most, sum_by-drop p.bricks i)) small
+most_small p i layer most small = AreAtMost-more (most_from p i) (2 ^ 122) layer (most_from-small p i most) small
 
 -- moves of a menu are fair
 pub fair_menu : (f : FoldValue) (k i : ℕ) (b : Brick) (v : Vector) (menu : Menu) → total_magnitude f.program ≤ 2 ^ 120 → slice_get f.program.bricks i ≡ Some b →
@@ -77,15 +81,22 @@ pub fair_menu : (f : FoldValue) (k i : ℕ) (b : Brick) (v : Vector) (menu : Men
 fair_menu f k i b v menu most brick is j m low =
     record { low = is.low j m low; small = omega (arith, most, is.small j m low, brick_in_total f.program.bricks i b brick) }
 
--- a layer over one within its reach is within its own
-over_small : (zs : List Vector) (menu : Menu) (next layer : Layer) (change rest : ℕ) → IsLayerOver zs menu next layer →
-    All (λ m. unsigned_abs m.change ≤ change) menu → AreAtMost rest next → AreAtMost (change + rest) layer
-over_small zs menu next layer change rest over moves below j a there =
-    let (i, goes) = over.attained j a there in
-    let move : unsigned_abs (goes.move).change ≤ change =
-    subst (λ (m : PricedMove). unsigned_abs m.change ≤ change) (get_or_from_slice_get menu i goes.move goes.move goes.there) (moves i goes.move (slice_get_within menu i goes.move goes.there)) in
-    let after = below goes.reach.to goes.rest goes.reach.cell in
-    omega (arith, ints, goes.is, move, after)
+-- ---- a listed vector
+
+-- stands at some place
+pub place_of : (vs : List Vector) (v : Vector) → Contains vs v → (j : ℕ) × (slice_get vs j ≡ Some v)
+place_of vs v (j, low, e) = (j, slice_get-get_or vs j v low ∙ ap Some e)
+
+pub listed : (vs : List Vector) (j : ℕ) (v : Vector) → slice_get vs j ≡ Some v → Contains vs v
+listed vs j v there = (j, slice_get_within vs j v there, get_or_from_slice_get vs j v v there)
+
+-- no cell of a layer is more than walks cost
+pub cells_small : (f : FoldValue) (x : Bricks) (k i : ℕ) (need : ℤ) (layer : Layer) → IsLayer f x k i need layer →
+    AreAtMost (most_from f.program i) layer
+cells_small f x k i need layer is j a there =
+    let (w, here) = there_at (vectors f.sums) j (omega (arith, is.under.size, slice_get_within layer j (Some a) there)) in
+    let (h, walk) = is.under.walks j w a here there in
+    is.small w h a (listed (vectors f.sums) j w here) walk
 
 -- ---- layers
 
@@ -96,83 +107,49 @@ module _ (f : FoldValue) (x : Bricks) (k : ℕ) (same : length x ≡ length f.pr
   abbrev zs : List Vector
   zs = vectors f.sums
 
-  -- the last layer
-  pub last_is : (layer : Layer) → IsLastLayer f k (link_rests f.program x) layer → IsLayer f x k n layer
-  last_is layer last = record {
-    least = record { size = last.size; cells = cells };
-    small = AreAtMost-more (2 ^ 118) (most_from f.program n) layer (omega arith) last.small;
+  -- behind the last brick a walk is over
+  ended : (w : Vector) (h : Bricks) (c : ℤ) → CostsFrom f x k n w h c →
+      WalkCosts f.program f.phase zs k (link_rests f.program x) [] [] w h c
+  ended w h c wc =
+      let bricks : drop n f.program.bricks ≡ [] = drop_all n f.program.bricks (omega arith) in
+      let none : drop n x ≡ [] = drop_all n x (omega (arith, same)) in
+      subst (λ y. WalkCosts f.program f.phase zs k (link_rests f.program x) [] y w h c) none
+      (subst (λ bs. WalkCosts f.program f.phase zs k (link_rests f.program x) bs (drop n x) w h c) bricks wc)
+
+  -- the last layer, whatever a step is to gain
+  pub last_is : (layer : Layer) → IsLastLayer f k (link_rests f.program x) layer → (need : ℤ) → IsLayer f x k n need layer
+  last_is layer last need = record {
+    under = record {
+      size = last.size;
+      walks = λ j w c here cell. (cells j w (Some c) here cell).0;
+      least = λ j w h c here wc low. least j w h c here wc (there_at layer j (omega (arith, last.size, slice_get_within zs j w here)));
+    };
+    small = λ w h c there wc. small w h c (place_of zs w there) (ended w h c wc);
   }
     where
       cells : (j : ℕ) (w : Vector) (o : Option ℤ) → slice_get zs j ≡ Some w → slice_get layer j ≡ Some o →
           IsLeastWalk f.program f.phase zs k (link_rests f.program x) (drop n f.program.bricks) (drop n x) w o
-      cells j w o listed cell =
+      cells j w o here cell =
           let bricks : drop n f.program.bricks ≡ [] = drop_all n f.program.bricks (omega arith) in
           let none : drop n x ≡ [] = drop_all n x (omega (arith, same)) in
           subst (λ y. IsLeastWalk f.program f.phase zs k (link_rests f.program x) (drop n f.program.bricks) y w o) (sym none) (
           subst (λ bs. IsLeastWalk f.program f.phase zs k (link_rests f.program x) bs [] w o) (sym bricks)
-          (least_end f.program f.phase zs k (link_rests f.program x) w o (sym (last.cells j w o listed cell)))
+          (least_end f.program f.phase zs k (link_rests f.program x) w o (sym (last.cells j w o here cell)))
           )
 
-  -- a layer over the next one by the menu of the brick between them
-  pub over_is : (i : ℕ) (b : Brick) (v : Vector) (menu : Menu) (next layer : Layer) → slice_get f.program.bricks i ≡ Some b → slice_get x i ≡ Some v →
-      IsBrickMenu f k b v menu → IsLayer f x k (i + 1) next → IsLayerOver zs menu next layer → IsLayer f x k i layer
-  over_is i b v menu next layer brick at is below over = record {
-    least =
-        subst (λ y. IsLeastRow f.program f.phase zs k (link_rests f.program x) (drop i f.program.bricks) y layer) (sym (drop_here x i v at)) (
-        subst (λ bs. IsLeastRow f.program f.phase zs k (link_rests f.program x) bs (v ∷ drop (i + 1) x) layer) (sym (drop_here f.program.bricks i b brick)) (
-        row_over f.program f.phase zs k (link_rests f.program x) b (drop (i + 1) f.program.bricks) v (drop (i + 1) x) menu next is.moves below.least layer over
-        )
-        );
-    small =
-        let split : sum_by brick_magnitude (drop i f.program.bricks) ≡ brick_magnitude b + sum_by brick_magnitude (drop (i + 1) f.program.bricks) =
-        ap (sum_by brick_magnitude) (drop_here f.program.bricks i b brick) ∙ sum_by-cons brick_magnitude b (drop (i + 1) f.program.bricks) in
-        AreAtMost-more (2 * brick_magnitude b + most_from f.program (i + 1)) (most_from f.program i) layer (omega (arith, split))
-        (over_small zs menu next layer (2 * brick_magnitude b) (most_from f.program (i + 1)) over is.small below.small);
-  }
+      least : (j : ℕ) (w : Vector) (h : Bricks) (c : ℤ) → slice_get zs j ≡ Some w → CostsFrom f x k n w h c →
+          (o : Option ℤ) × (slice_get layer j ≡ Some o) → IsAtMost layer j c
+      least j w h c here wc (None, cell) = absurd (cells j w None here cell h c wc)
+      least j w h c here wc (Some a, cell) = (a, cell, (cells j w (Some a) here cell).1 h c wc)
 
-  pub layers_one : (layer : Layer) (layers : List Layer) → layers ≡ layer ∷ [] → IsLastLayer f k (link_rests f.program x) layer → AreLayers f x k 1 layers
-  layers_one layer layers is last =
-      subst (AreLayers f x k 1) (sym is) (record { size = refl; each = λ m other there. by m other there })
-    where
-      by : (m : ℕ) (other : Layer) → slice_get (layer ∷ []) m ≡ Some other → IsLayer f x k (n - m) other
-      by zero other there =
-          let first : n ≡ n - 0 = omega arith in
-          subst (λ l. IsLayer f x k (n - 0) l) (at_same (Some layer) layer other refl there) (subst (λ i. IsLayer f x k i layer) first (last_is layer last))
-      by (suc m) other there = absurd (cc)
-
-  -- the layer over the last one
-  pub layer_over : (m : ℕ) (layers : List Layer) (next layer : Layer) (b : Brick) (v : Vector) (menu : Menu) → m < n → AreLayers f x k (m + 1) layers →
-      slice_get layers m ≡ Some next → slice_get f.program.bricks (n - m - 1) ≡ Some b → slice_get x (n - m - 1) ≡ Some v →
-      IsBrickMenu f k b v menu → IsLayerOver zs menu next layer → IsLayer f x k (n - m - 1) layer
-  layer_over m layers next layer b v menu low so_far there brick at is_menu over =
-      let joined : n - m ≡ n - m - 1 + 1 = omega (arith, low) in
-      over_is (n - m - 1) b v menu next layer brick at is_menu (subst (λ i. IsLayer f x k i next) joined (so_far.each m next there)) over
-
-  -- one more layer
-  pub layers_more : (m : ℕ) (layers more : List Layer) (next layer : Layer) (b : Brick) (v : Vector) (menu : Menu) → m < n → AreLayers f x k (m + 1) layers →
-      more ≡ layers ++ layer ∷ [] → slice_get layers m ≡ Some next → slice_get f.program.bricks (n - m - 1) ≡ Some b → slice_get x (n - m - 1) ≡ Some v →
-      IsBrickMenu f k b v menu → IsLayerOver zs menu next layer → AreLayers f x k (m + 1 + 1) more
-  layers_more m layers more next layer b v menu low so_far is there brick at is_menu over =
-      subst (AreLayers f x k (m + 1 + 1)) (sym is) (record {
-        size = length-append layers (layer ∷ []) ∙ ap (λ m. m + 1) so_far.size;
-        each = λ i other here. by i other (slice_get-push layers layer other i here);
-      })
-    where
-      joined : n - m ≡ n - m - 1 + 1
-      joined = omega (arith, low)
-
-      place : n - m - 1 ≡ n - (m + 1)
-      place = omega arith
-
-      new : IsLayer f x k (n - (m + 1)) layer
-      new =
-          subst (λ i. IsLayer f x k i layer) place (layer_over m layers next layer b v menu low so_far there brick at is_menu over)
-
-      by : (i : ℕ) (other : Layer) → (slice_get layers i ≡ Some other) ⊎ ((i ≡ length layers) × (layer ≡ other)) → IsLayer f x k (n - i) other
-      by i other (inl before) = so_far.each i other before
-      by i other (inr last) =
-          let index : m + 1 ≡ i = sym (last.0 ∙ so_far.size) in
-          subst (λ l. IsLayer f x k (n - i) l) last.1 (subst (λ j. IsLayer f x k (n - j) layer) index new)
+      small : (w : Vector) (h : Bricks) (c : ℤ) → (j : ℕ) × (slice_get zs j ≡ Some w) →
+          WalkCosts f.program f.phase zs k (link_rests f.program x) [] [] w h c → unsigned_abs c ≤ most_from f.program n
+      small w [] c (j, here) wc =
+          let (o, cell) = there_at layer j (omega (arith, last.size, slice_get_within zs j w here)) in
+          let is : o ≡ Some wc.last = last.cells j w o here cell ∙ wc.ends in
+          let few = last.small j wc.last (cell ∙ ap Some is) in
+          omega (arith, ints, wc.is, few)
+      small w (d ∷ h) c place wc = absurd (omega (arith, wc.walk.size))
 
   -- each brick may stay where it is
   pub stays : (t place i : ℕ) (b : Brick) (v : Vector) (menu : Menu) (next : Layer) → slice_get zs place ≡ Some (zeros t) → All (λ z. length z ≡ t) zs →
@@ -180,10 +157,6 @@ module _ (f : FoldValue) (x : Bricks) (k : ℕ) (same : length x ≡ length f.pr
   stays t place i b v menu next listed widths size within all is = may_stay f.phase zs k t b v menu next place is.moves listed widths size within all
 
 -- ---- what a layer needs of the brick before it
-
--- a listed vector stands at some place
-pub place_of : (vs : List Vector) (v : Vector) → Contains vs v → (j : ℕ) × (slice_get vs j ≡ Some v)
-place_of vs v (j, low, e) = (j, slice_get-get_or vs j v low ∙ ap Some e)
 
 -- a brick, its vector and its menu
 pub record AtBrick (f : FoldValue) (x : Bricks) (k i : ℕ) (menu : Menu) : Type 0 where
@@ -224,15 +197,19 @@ buffer new old len same all =
 -- ---- bounds for the moves over a layer
 
 -- none is known at first
-pub tops_fresh : (zs : List Vector) (next : Layer) (tops : List (Option ℤ)) (size : ℕ) → tops ≡ replicate size None → size ≡ length zs → AreTops zs next tops
-tops_fresh zs next tops size is all =
-    tops_none zs next tops (ap length is ∙ length-replicate size None ∙ all) (λ h o there. none size h o (ap (λ ts. slice_get ts h) (sym is) ∙ there))
+pub tops_fresh : (zs : List Vector) (from next : Layer) (tops : List (Option ℤ)) (size : ℕ) → tops ≡ replicate size None → size ≡ length zs →
+    AreTops zs from next tops
+tops_fresh zs from next tops size is all =
+    tops_none zs from next tops (ap length is ∙ length-replicate size None ∙ all) (λ h o there. none size h o (ap (λ ts. slice_get ts h) (sym is) ∙ there))
   where
     none : (n h : ℕ) (o : Option ℤ) → slice_get (replicate n None) h ≡ Some o → o ≡ None
     none zero h o there = absurd (cc)
     none (suc n) zero o there = sym (at_same (Some None) None o refl there)
     none (suc n) (suc h) o there = none n h o there
 
-pub tops_same : (zs : List Vector) (layer next : Layer) (tops others : List (Option ℤ)) → next ≡ layer → others ≡ tops → AreTops zs layer tops → AreTops zs next others
-tops_same zs layer next tops others same also are =
-    subst (λ (l : Layer). AreTops zs l others) (sym same) (subst (λ (ts : List (Option ℤ)). AreTops zs layer ts) (sym also) are)
+-- those that stand in a list, over the layer that stands in one
+pub tops_same : (zs : List Vector) (limit : ℤ) (layer next : Layer) (tops others : List (Option ℤ)) → next ≡ layer → others ≡ tops →
+    AreTops zs (live limit layer) layer tops → AreTops zs (live limit next) next others
+tops_same zs limit layer next tops others same also are =
+    subst (λ (l : Layer). AreTops zs (live limit l) l others) (sym same)
+    (subst (λ (ts : List (Option ℤ)). AreTops zs (live limit layer) layer ts) (sym also) are)

@@ -1,6 +1,6 @@
 -- By how much the moves of all bricks lower the cost at most, each brick taken by itself.
 use Rattle.std.proofs.Common.{◌≡◌, ℕ, zero, suc, ◌+◌, ◌-◌, ◌*◌, ◌^◌, ◌<◌, ◌≤◌, ℤ, pos, ◌+ℤ◌, ◌-ℤ◌, ◌≤ℤ◌, ◌<ℤ◌, Bool, true, false, cond, int_lt, List, [], ◌∷◌}
-use Rattle.std.proofs.Common.{length, take, drop, map, sum_by, refl, ap, arith, sym, ◌∙◌, Some, None, Option, slice_get, subst, Contains, ◌⊎◌, inl, inr}
+use Rattle.std.proofs.Common.{length, take, drop, map, sum_by, refl, ap, arith, sym, ◌∙◌, Some, slice_get, subst, Contains, ◌⊎◌, inl, inr}
 use Rattle.std.proofs.Common.{unsigned_abs}
 use Rattle.std.specs.List.{filter}
 use Rattle.std.specs.Int.{int_min}
@@ -17,7 +17,7 @@ use Rattle.lattice_laws.proofs.Sums.{add_zeros}
 use Rattle.piece_laws.proofs.Bounds.{is_within_true, is_within_of}
 use Rattle.fold_theory.specs.declared.Phase.{Phase}
 use Rattle.fold_theory.specs.declared.Phase.TheVariants.{Closed, Counted}
-use Rattle.fold_theory.specs.Programs.{Program, Brick, Bricks, IsWithin, is_within, link_rests}
+use Rattle.fold_theory.specs.Programs.{Program, Brick, Bricks, IsWithin, is_within}
 use Rattle.fold_program.specs.Refusals.{brick_magnitude, total_magnitude}
 use Rattle.run_theory.specs.Walks.{brick_change, WalkCosts}
 use Rattle.run_theory.specs.Live.{least, least_change, least_before}
@@ -25,14 +25,9 @@ use Rattle.run_theory.specs.Folds.{FoldValue}
 use Rattle.walk_laws.proofs.Walks.{front_of}
 use Rattle.sieve_laws.specs.declared.PricedMove.{PricedMove}
 use Rattle.sieve_laws.specs.Sieve.{Menu, IsMenu, after}
-use Rattle.sieve_laws.specs.Sieve.{Layer}
-use Rattle.brick_dp.specs.Tables.{IsLayer}
-use Rattle.run_theory.specs.declared.Key.{Key}
-use Rattle.run_theory.specs.Keys.{IsNoWorse}
-use Rattle.brick_dp.specs.Needs.{IsLeastOf, AreAbove, NoneGains, HasHope, NoneLives}
-use Rattle.brick_dp.proofs.NeedLaws.{no_worse}
+use Rattle.brick_dp.specs.Needs.{IsLeastOf}
 use Rattle.brick_dp.proofs.ChangeLaws.{at_same}
-use Rattle.brick_dp.proofs.FillLaws.{place_of, there_at, drop_here, AtBrick, most_small}
+use Rattle.brick_dp.proofs.FillLaws.{place_of, listed, drop_here, AtBrick}
 
 -- ---- the least of a list of numbers
 
@@ -74,9 +69,6 @@ least-in x (y ∷ rest) = elim (min_one x (least (y ∷ rest))) [
 no_change : (phase : Phase) (b : Brick) (v : Vector) → brick_change phase b v v ≡ pos 0
 no_change Closed b v = omega (arith, ints)
 no_change Counted b v = refl
-
-listed : (vs : List Vector) (j : ℕ) (v : Vector) → slice_get vs j ≡ Some v → Contains vs v
-listed vs j v there = (j, slice_get_within vs j v there, get_or_from_slice_get vs j v v there)
 
 module _ (phase : Phase) (zs : List Vector) (k : ℕ) (b : Brick) (v : Vector) where
   abbrev change_of : Vector → ℤ
@@ -187,7 +179,7 @@ least_all menu found n all so_far = record {
 
 -- ---- going through the bricks
 
-sum_zip-next : {A B : Type 0} (f : A → B → ℤ) (xs : List A) (ys : List B) (n : ℕ) (x : A) (y : B) → slice_get xs n ≡ Some x →
+pub sum_zip-next : {A B : Type 0} (f : A → B → ℤ) (xs : List A) (ys : List B) (n : ℕ) (x : A) (y : B) → slice_get xs n ≡ Some x →
     slice_get ys n ≡ Some y → sum_zip f (take (n + 1) xs) (take (n + 1) ys) ≡ (sum_zip f (take n xs) (take n ys) +ℤ f x y)
 sum_zip-next f [] ys n x y here there = absurd (cc)
 sum_zip-next f (a ∷ xs) [] n x y here there = absurd (cc)
@@ -303,48 +295,3 @@ module _ (p : Program) (phase : Phase) (zs : List Vector) (k : ℕ) (rests : Vec
         walk = behind.walk;
         low = omega (arith, ints, behind.low, low, f.is);
       }
-
--- where no walk from a node of the layer costs little enough, none gains so much
-pub none_gains_above : (f : FoldValue) (x : Bricks) (k i : ℕ) (layer : Layer) (floor need : ℤ) → i ≤ length f.program.bricks →
-    IsLayer f x k i layer → AreAbove ((pos 0 -ℤ need) -ℤ floor) layer →
-    floor ≡ least_before f.program f.phase (vectors f.sums) x k i → Contains (vectors f.sums) (zeros f.program.brick.cols) → NoneGains f x k need
-none_gains_above f x k i layer floor need low is above lowest origin h c wc =
-    by there.0 there.1
-  where
-    way : Passes f.program f.phase (vectors f.sums) k (link_rests f.program x) f.program.bricks x i c
-    way = passes f.program f.phase (vectors f.sums) k (link_rests f.program x) f.program.bricks x i (zeros f.program.brick.cols) h c low origin wc
-
-    place : (j : ℕ) × (slice_get (vectors f.sums) j ≡ Some way.sum)
-    place = place_of (vectors f.sums) way.sum way.there
-
-    there : (cell : Option ℤ) × (slice_get layer place.0 ≡ Some cell)
-    there = there_at layer place.0 (omega (arith, is.least.size, slice_get_within (vectors f.sums) place.0 way.sum place.1))
-
-    by : (cell : Option ℤ) → slice_get layer place.0 ≡ Some cell → (pos 0 -ℤ need) <ℤ c
-    by None at = absurd (is.least.cells place.0 way.sum None place.1 at way.moves way.rest way.walk)
-    by (Some a) at =
-        let most = (is.least.cells place.0 way.sum (Some a) place.1 at).1 way.moves way.rest way.walk in
-        let high = above place.0 a at in
-        omega (arith, ints, way.low, most, high, lowest)
-
--- a cost of the last layer that leaves hope is that of a live node, under each bound before
-pub last_lives : (f : FoldValue) (x : Bricks) (k : ℕ) (layer : Layer) (floor : ℤ) (old new : Option Key) → 0 < length f.program.bricks →
-    total_magnitude f.program ≤ 2 ^ 120 → IsLayer f x k (length f.program.bricks) layer → HasHope k new layer floor → IsNoWorse old new →
-    floor ≡ least_before f.program f.phase (vectors f.sums) x k (length f.program.bricks) → unsigned_abs floor ≤ 2 * total_magnitude f.program →
-    NoneLives f x k old → ⊥
-last_lives f x k layer floor old new some most is (need, needed, (i, a, cell, low)) better lowest small none =
-    none node.0 (record {
-      layer = some;
-      inside = omega arith;
-      listed = listed (vectors f.sums) i node.0 node.1;
-      potential = a;
-      is = is.least.cells i node.0 (Some a) node.1 cell;
-      gains = omega (arith, ints, low, lowest, needed.low);
-      unbeaten = no_worse _ old new better (needed.enough _ (omega (arith, ints, lowest, small, most, a_small)) (omega (arith, ints, low, lowest, needed.low)));
-    })
-  where
-    node : (w : Vector) × (slice_get (vectors f.sums) i ≡ Some w)
-    node = there_at (vectors f.sums) i (omega (arith, is.least.size, slice_get_within layer i (Some a) cell))
-
-    a_small : unsigned_abs a ≤ 2 ^ 122
-    a_small = most_small f.program (length f.program.bricks) layer most is.small i a cell

@@ -8,5 +8,7 @@ pub mod PotentialLaws
 pub mod ReadLaws
 pub mod NeedLaws
 pub mod FloorLaws
+pub mod UnderLaws
+pub mod TriedLaws
 pub mod BestLaws
 mod KnownValues

@@ -1,28 +1,28 @@
 -- Reading the best walk off the layers: the moves so far begin it, and those that are not zero are written down.
-use Rattle.std.proofs.Common.{◌≡◌, ℕ, suc, ◌+◌, ◌-◌, ◌<◌, ℤ, pos, ◌-ℤ◌, ◌<ℤ◌, Bool, true, false, List, [], ◌∷◌, ◌++◌, length, drop, refl, ap, arith, sym, ◌∙◌, Some, slice_get, subst, All, append_assoc, append-nil, unsigned_abs, IsTrue}
+use Rattle.std.proofs.Common.{◌≡◌, ℕ, suc, ◌+◌, ◌-◌, ◌<◌, ℤ, pos, ◌-ℤ◌, ◌<ℤ◌, ◌≤ℤ◌, Bool, true, false, List, [], ◌∷◌, ◌++◌, length, drop, refl, ap, arith, sym, ◌∙◌, Some, slice_get, subst, All, append_assoc, append-nil, unsigned_abs, IsTrue}
 use Rattle.std.proofs.lemmas.Int.{ints}
 use Rattle.std.proofs.lemmas.List.{drop_all, length-append}
 use Rattle.std.specs.Ordering.{is_le}
 use Rattle.walk_laws.proofs.Candidates.{widths_within}
 use Rattle.lattice_theory.specs.Vectors.{Vector, is_rising, is_zero, zeros, add}
 use Rattle.lattice_theory.specs.SignedSums.{vectors}
-use Rattle.fold_theory.specs.Programs.{IsProgram, AreWithin, Brick, Bricks, link_rests, IsLength}
+use Rattle.fold_theory.specs.Programs.{IsProgram, AreWithin, Bricks, link_rests, IsLength}
 use Rattle.run_theory.specs.Outcomes.{step_at, nonzero_from, nonzero_entries}
 use Rattle.run_theory.specs.Steps.{gain, Augments, rule_cmp}
 use Rattle.run_theory.specs.Walks.{WalkCosts}
 use Rattle.run_theory.specs.Folds.{FoldValue}
 use Rattle.run_theory.specs.Bests.{IsFound}
-use Rattle.walk_laws.proofs.BestWalks.{IsLeastRow, IsLeastWalk, IsBestWalk, BeginsBest, begins_none, best_end}
+use Rattle.walk_laws.proofs.BestWalks.{IsBestWalk, BeginsBest, begins_none, best_end}
 use Rattle.walk_laws.proofs.BestSteps.{walk_augments, best_is_first, gain_is}
-use Rattle.sieve_laws.specs.Sieve.{Layer, Menu, Goes, IsLayerOver}
+use Rattle.sieve_laws.specs.Sieve.{Layer, Menu, Goes}
 use Rattle.sieve_laws.proofs.Lowering.{one_place}
-use Rattle.sieve_laws.proofs.Rows.{row_is_over, begins_by_first}
+use Rattle.sieve_laws.proofs.Rows.{goes_of_cell, begins_by_first}
 use Rattle.layer_sieve.specs.declared.choices.Choice.{Choice}
 use Rattle.layer_sieve.specs.Reaching.{IsChoice}
-use Rattle.brick_dp.specs.Menus.{IsBrickMenu}
-use Rattle.brick_dp.specs.Tables.{IsLayer, AreLayers, IsFirstCost}
+use Rattle.brick_dp.specs.Tables.{IsLayer, AreLayers, IsFirstCost, limit_at}
 use Rattle.brick_dp.proofs.ChangeLaws.{at_same}
-use Rattle.brick_dp.proofs.FillLaws.{drop_here}
+use Rattle.brick_dp.proofs.FillLaws.{drop_here, AtBrick}
+use Rattle.brick_dp.proofs.UnderLaws.{enough, front}
 
 turned : (a : ℤ) → unsigned_abs (pos 0 -ℤ a) ≡ unsigned_abs a
 turned a = grind (arith, ints)
@@ -52,9 +52,10 @@ nonzero_entries-push (u ∷ h) d = by (is_zero u) (nonzero_entries-push h d)
     by false more = ap (λ xs. u ++ xs) more ∙ sym (append_assoc u (nonzero_entries h) (nonzero_entries (d ∷ [])))
 
 -- at the end of all bricks the walk without a move is the best one
-end_best : (f : FoldValue) (x : Bricks) (k : ℕ) (w : Vector) (cost : ℤ) → IsLeastWalk f.program f.phase (vectors f.sums) k (link_rests f.program x) [] [] w (Some cost) →
+end_best : (f : FoldValue) (x : Bricks) (k : ℕ) (w : Vector) (cost : ℤ) →
+    (h : Bricks) × WalkCosts f.program f.phase (vectors f.sums) k (link_rests f.program x) [] [] w h cost →
     IsBestWalk f.program f.phase (vectors f.sums) k (link_rests f.program x) [] [] w [] cost
-end_best f x k w cost ((h, walk), low) = by h walk
+end_best f x k w cost (h, walk) = by h walk
   where
     by : (h : Bricks) → WalkCosts f.program f.phase (vectors f.sums) k (link_rests f.program x) [] [] w h cost →
         IsBestWalk f.program f.phase (vectors f.sums) k (link_rests f.program x) [] [] w [] cost
@@ -70,6 +71,10 @@ module _ (f : FoldValue) (x : Bricks) (k : ℕ) (layers : List Layer) (total : �
   abbrev n : ℕ
   n = length f.program.bricks
 
+  -- a step that costs no more is to gain this much
+  abbrev need : ℤ
+  need = pos 0 -ℤ total
+
   -- what was read before brick number done + 1, where the walk has come to the sum at this place, from which walks cost this much
   pub record Reading (done at : ℕ) (cost : ℤ) (bricks : List ℕ) (entries : Vector) : Type 0 where
     pub front : Bricks
@@ -81,6 +86,7 @@ module _ (f : FoldValue) (x : Bricks) (k : ℕ) (layers : List Layer) (total : �
     pub layer : Layer
     pub here : slice_get layers (n - done) ≡ Some layer
     pub cell : slice_get layer at ≡ Some (Some cost)
+    pub low : cost ≤ℤ limit_at f x k need done
     pub begins : BeginsBest f.program f.phase zs k (link_rests f.program x) f.program.bricks (drop done f.program.bricks) x (drop done x) (zeros f.program.brick.cols) sum total cost front
 
   pub reading_none : (at : ℕ) (bricks : List ℕ) (entries : Vector) → is_rising zs ≡ true → slice_get zs at ≡ Some (zeros f.program.brick.cols) → bricks ≡ [] →
@@ -98,44 +104,36 @@ module _ (f : FoldValue) (x : Bricks) (k : ℕ) (layers : List Layer) (total : �
         layer = is.layer;
         here = ap (slice_get layers) (sym first) ∙ is.there;
         cell = ap (slice_get is.layer) (sym same) ∙ is.cell;
+        low = omega (arith, ints);
         begins = begins_none f.program f.phase zs k (link_rests f.program x) f.program.bricks x (zeros f.program.brick.cols) total;
       }
 
-  module _ (are : AreLayers f x k (n + 1) layers) where
+  module _ (are : AreLayers f x k (n + 1) need layers) where
     -- the layers before and behind a brick
-    layer_at : (done : ℕ) (layer : Layer) → done < n + 1 → slice_get layers (n - done) ≡ Some layer → IsLayer f x k done layer
+    layer_at : (done : ℕ) (layer : Layer) → done < n + 1 → slice_get layers (n - done) ≡ Some layer → IsLayer f x k done need layer
     layer_at done layer low there =
         let index : n - (n - done) ≡ done = omega (arith, low) in
-        subst (λ i. IsLayer f x k i layer) index (are.each (n - done) layer there)
+        subst (λ i. IsLayer f x k i need layer) index (are.each (n - done) layer there)
 
-    pub over_at : (done : ℕ) (b : Brick) (v : Vector) (menu : Menu) (layer next : Layer) → done < n → slice_get f.program.bricks done ≡ Some b →
-        slice_get x done ≡ Some v → IsBrickMenu f k b v menu → slice_get layers (n - done) ≡ Some layer → slice_get layers (n - (done + 1)) ≡ Some next →
-        IsLayerOver zs menu next layer
-    over_at done b v menu layer next low brick at is here below =
-        row_is_over f.program f.phase zs k (link_rests f.program x) b (drop (done + 1) f.program.bricks) v (drop (done + 1) x) menu next is.moves
-        (layer_at (done + 1) next (omega (arith, low)) below).least layer (
-        subst (λ bs. IsLeastRow f.program f.phase zs k (link_rests f.program x) bs (v ∷ drop (done + 1) x) layer) (drop_here f.program.bricks done b brick) (
-        subst (λ y. IsLeastRow f.program f.phase zs k (link_rests f.program x) (drop done f.program.bricks) y layer) (drop_here x done v at)
-        (layer_at done layer (omega (arith, low)) here).least
-        )
-        )
-
-    -- some move costs as little as walks do
-    pub choice_there : (done at : ℕ) (cost : ℤ) (bricks : List ℕ) (entries : Vector) (b : Brick) (v : Vector) (menu : Menu) (next : Layer) → done < n →
-        Reading done at cost bricks entries → slice_get f.program.bricks done ≡ Some b → slice_get x done ≡ Some v → IsBrickMenu f k b v menu →
-        slice_get layers (n - (done + 1)) ≡ Some next → ((i : ℕ) → Goes zs menu next at i cost → ⊥) → ⊥
-    choice_there done at cost bricks entries b v menu next low r brick point is below none =
-        let over = over_at done b v menu r.layer next low brick point is r.here below in
-        let found = over.attained at cost r.cell in
+    -- some move costs as little as the walks that are left
+    pub choice_there : (done at : ℕ) (cost : ℤ) (bricks : List ℕ) (entries : Vector) (menu : Menu) (next : Layer) → done < n →
+        Reading done at cost bricks entries → AtBrick f x k done menu → slice_get layers (n - (done + 1)) ≡ Some next →
+        ((i : ℕ) → Goes zs menu next at i cost → ⊥) → ⊥
+    choice_there done at cost bricks entries menu next low r here below none =
+        let found = goes_of_cell f.program f.phase zs k (link_rests f.program x) here.brick (drop (done + 1) f.program.bricks) here.vector
+        (drop (done + 1) x) menu next here.menu_is.moves (limit_at f x k need (done + 1)) (limit_at f x k need done)
+        (layer_at (done + 1) next (omega (arith, low)) below).under (enough f x k done menu here need) r.layer
+        (front f x k done menu here (limit_at f x k need done) r.layer (layer_at done r.layer (omega (arith, low)) r.here).under)
+        at cost r.cell r.low in
         none found.0 found.1
 
     -- the move of one more brick
-    pub reading_more : (done at : ℕ) (cost : ℤ) (bricks next_bricks : List ℕ) (entries next_entries : Vector) (b : Brick) (v : Vector) (menu : Menu) (next : Layer)
-        (choice : Choice) (part : Vector) → is_rising zs ≡ true → done < n → Reading done at cost bricks entries → slice_get f.program.bricks done ≡ Some b →
-        slice_get x done ≡ Some v → IsBrickMenu f k b v menu → slice_get layers (n - (done + 1)) ≡ Some next → IsChoice zs menu next at cost choice →
+    pub reading_more : (done at : ℕ) (cost : ℤ) (bricks next_bricks : List ℕ) (entries next_entries : Vector) (menu : Menu) (next : Layer)
+        (choice : Choice) (part : Vector) → is_rising zs ≡ true → done < n → Reading done at cost bricks entries → AtBrick f x k done menu →
+        slice_get layers (n - (done + 1)) ≡ Some next → IsChoice zs menu next at cost choice →
         slice_get zs choice.place ≡ Some part → next_bricks ≡ bricks ++ nonzero_from (done + 1) (part ∷ []) → next_entries ≡ entries ++ nonzero_entries (part ∷ []) →
         Reading (done + 1) choice.to choice.rest next_bricks next_entries
-    reading_more done at cost bricks next_bricks entries next_entries b v menu next choice part rising low r brick point is below chosen there bricks_more entries_more = record {
+    reading_more done at cost bricks next_bricks entries next_entries menu next choice part rising low r at_brick below chosen there bricks_more entries_more = record {
       front = r.front ++ part ∷ [];
       size = length-append r.front (part ∷ []) ∙ ap (λ m. m + 1) r.size;
       bricks_are =
@@ -147,6 +145,9 @@ module _ (f : FoldValue) (x : Bricks) (k : ℕ) (layers : List Layer) (total : �
       layer = next;
       here = below;
       cell = ap (slice_get next) chosen.to ∙ goes.reach.cell ∙ ap (λ c. Some (Some c)) (sym chosen.rest);
+      low =
+          let left = enough f x k done menu at_brick need chosen.i goes.move goes.there in
+          omega (arith, ints, left, chosen.rest, goes.is, r.low);
       begins =
           subst (λ e. BeginsBest f.program f.phase zs k (link_rests f.program x) f.program.bricks (drop (done + 1) f.program.bricks) x (drop (done + 1) x)
           (zeros f.program.brick.cols) (add r.sum d) total choice.rest (r.front ++ e ∷ [])) (sym parts) (
@@ -170,24 +171,24 @@ module _ (f : FoldValue) (x : Bricks) (k : ℕ) (layers : List Layer) (total : �
         number : done + 1 ≡ 1 + length r.front
         number = omega (arith, r.size)
 
-        over : IsLayerOver zs menu next r.layer
-        over = over_at done b v menu r.layer next low brick point is r.here below
-
-        begun : BeginsBest f.program f.phase zs k (link_rests f.program x) f.program.bricks (b ∷ drop (done + 1) f.program.bricks) x (v ∷ drop (done + 1) x)
-            (zeros f.program.brick.cols) r.sum total cost r.front
+        begun : BeginsBest f.program f.phase zs k (link_rests f.program x) f.program.bricks (at_brick.brick ∷ drop (done + 1) f.program.bricks) x
+            (at_brick.vector ∷ drop (done + 1) x) (zeros f.program.brick.cols) r.sum total cost r.front
         begun =
-            subst (λ bs. BeginsBest f.program f.phase zs k (link_rests f.program x) f.program.bricks bs x (v ∷ drop (done + 1) x) (zeros f.program.brick.cols) r.sum total cost r.front)
-            (drop_here f.program.bricks done b brick) (
+            subst (λ bs. BeginsBest f.program f.phase zs k (link_rests f.program x) f.program.bricks bs x (at_brick.vector ∷ drop (done + 1) x)
+            (zeros f.program.brick.cols) r.sum total cost r.front)
+            (drop_here f.program.bricks done at_brick.brick at_brick.brick_there) (
             subst (λ y. BeginsBest f.program f.phase zs k (link_rests f.program x) f.program.bricks (drop done f.program.bricks) x y (zeros f.program.brick.cols) r.sum total cost r.front)
-            (drop_here x done v point) r.begins
+            (drop_here x done at_brick.vector at_brick.vector_there) r.begins
             )
 
         further : BeginsBest f.program f.phase zs k (link_rests f.program x) f.program.bricks (drop (done + 1) f.program.bricks) x (drop (done + 1) x)
             (zeros f.program.brick.cols) (add r.sum d) total goes.rest (r.front ++ d ∷ [])
         further =
-            begins_by_first f.program f.phase zs k (link_rests f.program x) b (drop (done + 1) f.program.bricks) v (drop (done + 1) x) menu next is.moves
-            (layer_at (done + 1) next (omega (arith, low)) below).least r.layer over f.program.bricks x (zeros f.program.brick.cols) total r.front at chosen.i r.sum cost
-            rising r.listed r.cell chosen.first begun
+            begins_by_first f.program f.phase zs k (link_rests f.program x) at_brick.brick (drop (done + 1) f.program.bricks) at_brick.vector
+            (drop (done + 1) x) menu next at_brick.menu_is.moves (limit_at f x k need (done + 1)) (limit_at f x k need done)
+            (layer_at (done + 1) next (omega (arith, low)) below).under (enough f x k done menu at_brick need) r.layer
+            (front f x k done menu at_brick (limit_at f x k need done) r.layer (layer_at done r.layer (omega (arith, low)) r.here).under)
+            f.program.bricks x (zeros f.program.brick.cols) total r.front at chosen.i r.sum cost rising r.listed r.cell r.low chosen.first begun
 
     module _ (same : length x ≡ n) (widths : All (λ z. length z ≡ f.program.brick.cols) zs) where
       -- all moves
@@ -196,10 +197,10 @@ module _ (f : FoldValue) (x : Bricks) (k : ℕ) (layers : List Layer) (total : �
       reading_all at cost bricks entries r =
           let none_bricks : drop n f.program.bricks ≡ [] = drop_all n f.program.bricks (omega arith) in
           let none_point : drop n x ≡ [] = drop_all n x (omega (arith, same)) in
-          let row = (layer_at n r.layer (omega arith) r.here).least in
-          let walk = row.cells at r.sum (Some cost) r.listed r.cell in
-          let ended = subst (λ y. IsLeastWalk f.program f.phase zs k (link_rests f.program x) (drop n f.program.bricks) y r.sum (Some cost)) none_point walk in
-          let end = subst (λ bs. IsLeastWalk f.program f.phase zs k (link_rests f.program x) bs [] r.sum (Some cost)) none_bricks ended in
+          let walk = (layer_at n r.layer (omega arith) r.here).under.walks at r.sum cost r.listed r.cell in
+          let ended = subst (λ y. WalkCosts f.program f.phase zs k (link_rests f.program x) (drop n f.program.bricks) y r.sum walk.0 cost) none_point walk.1 in
+          let end : (h : Bricks) × WalkCosts f.program f.phase zs k (link_rests f.program x) [] [] r.sum h cost =
+          (walk.0, subst (λ bs. WalkCosts f.program f.phase zs k (link_rests f.program x) bs [] r.sum walk.0 cost) none_bricks ended) in
           let best = end_best f x k r.sum cost end in
           let moved = subst (λ y. IsBestWalk f.program f.phase zs k (link_rests f.program x) (drop n f.program.bricks) y r.sum [] cost) (sym none_point)
           (subst (λ bs. IsBestWalk f.program f.phase zs k (link_rests f.program x) bs [] r.sum [] cost) (sym none_bricks) best) in

@@ -4,14 +4,15 @@ use Rattle.lattice_theory.specs.Vectors.{Vector, zeros}
 use Rattle.lattice_theory.specs.SignedSums.{vectors}
 use Rattle.fold_theory.specs.Programs.{Bricks, link_rests}
 use Rattle.run_theory.specs.declared.Key.{Key}
-use Rattle.run_theory.specs.Keys.{beaten}
+use Rattle.run_theory.specs.Keys.{beaten, IsNoWorse}
 use Rattle.run_theory.specs.Live.{IsLive}
 use Rattle.run_theory.specs.Outcomes.{Step}
 use Rattle.run_theory.specs.Walks.{WalkCosts}
 use Rattle.run_theory.specs.Folds.{FoldValue}
 use Rattle.run_theory.specs.Bests.{IsFound}
 use Rattle.sieve_laws.specs.declared.PricedMove.{PricedMove}
-use Rattle.sieve_laws.specs.Sieve.{Menu}
+use Rattle.sieve_laws.specs.Sieve.{Layer, Menu}
+use Rattle.brick_dp.specs.Tables.{AreLayers}
 
 -- a gain is at least this exactly where it is above 0 and the bound does not beat it; no step gains 2 ^ 124
 pub record IsNeeded (k : ℕ) (bound : Option Key) (need : ℤ) : Type 0 where
@@ -54,9 +55,16 @@ IsHopeless f x k bound = (need : ℤ) × IsNeeded k bound need × NoneGains f x 
 abbrev pub AreBeaten : ℕ → Option Key → List (Option ℤ) → ℤ → Type 0
 AreBeaten k bound costs floor = (need : ℤ) × IsNeeded k bound need × AreAbove ((pos 0 -ℤ need) -ℤ floor) costs
 
--- some gain is needed, and a cost of the layer is so low that with the floor it gains so much
-abbrev pub HasHope : ℕ → Option Key → List (Option ℤ) → ℤ → Type 0
-HasHope k bound costs floor = (need : ℤ) × IsNeeded k bound need × IsWithin ((pos 0 -ℤ need) -ℤ floor) costs
+-- some gain is needed; the limit is the most that a walk costs which with the floor gains so much; and a cost of the
+-- layer is so low
+abbrev pub HasHope : ℕ → Option Key → List (Option ℤ) → ℤ → ℤ → Type 0
+HasHope k bound costs floor limit =
+    (need : ℤ) × IsNeeded k bound need × (limit ≡ ((pos 0 -ℤ need) -ℤ floor)) × IsWithin limit costs
+
+-- so many layers, right for whatever the bound asks for from now on
+abbrev pub AreLayersUnder : FoldValue → Bricks → ℕ → ℕ → Option Key → List Layer → Type 0
+AreLayersUnder f x k n bound layers =
+    (now : Option Key) (need : ℤ) → IsNoWorse bound now → IsNeeded k now need → AreLayers f x k n need layers
 
 -- no node of the last layer is live: moves of all bricks, each taken by itself, cannot gain what the bound asks for
 abbrev pub NoneLives : FoldValue → Bricks → ℕ → Option Key → Type 0

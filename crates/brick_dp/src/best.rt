@@ -1,11 +1,12 @@
 //! The best step of one length.
 
-ghost use Rattle.std.specs.Prelude.{◌≡◌, ◌+◌, ◌*◌, ◌^◌, ◌≤◌, ◌≤ℤ◌, pos, length, IsTrue, IfOk};
+ghost use Rattle.std.specs.Prelude.{◌≡◌, ◌+◌, ◌-◌, ◌*◌, ◌^◌, ◌≤◌, ◌≤ℤ◌, pos, length, IsTrue, IfOk};
 ghost use Rattle.lattice_theory.specs.Vectors.{is_rising};
 ghost use Rattle.lattice_theory.specs.SignedSums.{vectors};
 ghost use Rattle.fold_theory.specs.Programs.{IsLength, AreWithin};
 ghost use Rattle.run_theory.specs.Starts.{IsStart};
 ghost use Rattle.run_theory.specs.Folds.{HasBrickSums};
+ghost use Rattle.run_theory.specs.Live.{TriesLiveNodes};
 ghost use Rattle.brick_dp.specs.Menus.{AreMenus};
 ghost use Rattle.brick_dp.specs.Needs.{IsStepUnder, NoneLives};
 ghost use Rattle.brick_dp.specs.Tables.{AreLayers};
@@ -25,11 +26,10 @@ use step_lengths::count;
 /// The best step of `2^k` times a move, where it gains anything and the bound does not beat it.
 ///
 /// The fold's sums are the brick sums of its program and phase; the point is within the bounds and meets its brick
-/// rows, in phase `Closed` the linking rows too; and `2^k` is a step length. The bound is asked as the call begins,
-/// for each layer that differs from the one behind it, and once more before the step is read off. `moves` rises by one
-/// for each sum to which a move leads that could lower its cost, so by at most as often as there are bricks times sums
-/// times sums; where the moves of all bricks, each taken by itself, cannot gain what the bound asks for, no move is
-/// tried.
+/// rows, in phase `Closed` the linking rows too; and `2^k` is a step length. The bound is asked before the layer of
+/// each brick is made, and once more before the step is read off. `moves` rises by one for each sum to which a move
+/// leads that could lower its cost. Such moves lead to live nodes alone, each to at most as many as there are sums: to
+/// those from which a step can still gain what the bound asks for, where the bricks before are each taken by itself.
 ///
 /// `AllocError` comes only where memory runs out.
 pub fn best_step<B: Bound>(
@@ -45,6 +45,8 @@ pub fn best_step<B: Bound>(
     requires length { IsLength fold.now.program k }
     ensures answer { IfOk result (IsStepAnswer fold.now point.now k (B.last bound.new)) }
     ensures kept { B.later bound.old bound.new }
+    ensures tried { TriesLiveNodes fold.now.program fold.now.phase (vectors fold.now.sums) point.now k
+        (B.last bound.old) (moves.new - moves.old) }
     ensures untried { NoneLives fold.now point.now k (B.last bound.old) → moves.new ≡ moves.old }
     ensures rising { moves.old ≤ moves.new }
     ensures counted { moves.new ≤ moves.old + length fold.now.program.bricks * (length fold.now.sums * length fold.now.sums) }
@@ -75,6 +77,8 @@ pub fn best_step_with<B: Bound>(
     requires length { IsLength fold.now.program k }
     ensures answer { IfOk result (IsStepAnswer fold.now point.now k (B.last bound.new)) }
     ensures kept { B.later bound.old bound.new }
+    ensures tried { TriesLiveNodes fold.now.program fold.now.phase (vectors fold.now.sums) point.now k
+        (B.last bound.old) (moves.new - moves.old) }
     ensures untried { NoneLives fold.now point.now k (B.last bound.old) → moves.new ≡ moves.old }
     ensures rising { moves.old ≤ moves.new }
     ensures counted { moves.new ≤ moves.old + length fold.now.program.bricks * (length fold.now.sums * length fold.now.sums) }
@@ -110,7 +114,7 @@ fn step_under(
     requires menus { AreMenus fold.now point.now k menus.now }
     requires within { AreWithin fold.now.program.bricks point.now }
     requires length { IsLength fold.now.program k }
-    requires layers { AreLayers fold.now point.now k (length fold.now.program.bricks + 1) layers.now }
+    requires layers { AreLayers fold.now point.now k (length fold.now.program.bricks + 1) need layers.now }
     requires least { pos 1 ≤ℤ need }
     requires most { need ≤ℤ pos (2 ^ 124) }
     ensures { IfOk result (IsStepUnder fold.now point.now k need) }

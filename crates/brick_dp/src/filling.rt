@@ -1,16 +1,17 @@
 //! All layers, from the last one to the first.
 
-ghost use Rattle.std.specs.Prelude.{◌≡◌, ◌+◌, ◌*◌, ◌<◌, ◌≤◌, ◌^◌, ◌++◌, ◌∷◌, [], length, All, Contains, Some, IsTrue, IfOk, OnOk, MatchOption, slice_get, unsigned_abs};
-ghost use Rattle.std.specs.Bool.{OnTrue, OnFalse};
+ghost use Rattle.std.specs.Prelude.{◌≡◌, ◌+◌, ◌-◌, ◌*◌, ◌<◌, ◌≤◌, ◌^◌, ◌++◌, ◌∷◌, [], length, All, Contains, Some, IsTrue, IfOk, OnOk, MatchOption, slice_get, unsigned_abs};
 ghost use Rattle.lattice_theory.specs.Vectors.{is_rising, zeros};
 ghost use Rattle.lattice_theory.specs.SignedSums.{vectors};
 ghost use Rattle.fold_theory.specs.Programs.{AreWithin};
 ghost use Rattle.run_theory.specs.Keys.{IsNoWorse};
-ghost use Rattle.sieve_laws.specs.Sieve.{MayStay, IsLayerOver, AreTops};
+ghost use Rattle.run_theory.specs.Live.{TriesLiveNodes};
+ghost use Rattle.sieve_laws.specs.Sieve.{MayStay, IsLayerOver, AreTops, live};
 ghost use Rattle.layer_sieve.specs.Reaching.{AreAtMost, IsFair};
+ghost use Rattle.layer_sieve.specs.Tried.{IsTried};
 ghost use Rattle.brick_dp.specs.Menus.{AreMenus};
-ghost use Rattle.brick_dp.specs.Needs.{IsHopeless, AreBeaten, HasHope, NoneLives};
-ghost use Rattle.brick_dp.specs.Tables.{AreLayers};
+ghost use Rattle.brick_dp.specs.Needs.{IsHopeless, AreBeaten, HasHope, NoneLives, AreLayersUnder};
+ghost use Rattle.brick_dp.specs.Tables.{AreLeastLayers};
 
 use crate::bounds::{Bound, needed};
 use crate::ends::last_layer;
@@ -38,7 +39,7 @@ pub(crate) fn layers(
     requires menus { AreMenus fold.now point.now k menus.now }
     requires within { AreWithin fold.now.program.bricks point.now }
     requires short { k < 64 }
-    ensures layers { IfOk result (AreLayers fold.now point.now k (length fold.now.program.bricks + 1)) }
+    ensures layers { IfOk result (AreLeastLayers fold.now point.now k (length fold.now.program.bricks + 1)) }
     ensures rising { moves.old ≤ moves.new }
     ensures counted { moves.new ≤ moves.old + length fold.now.program.bricks * (length fold.now.sums * length fold.now.sums) }
 {
@@ -48,10 +49,12 @@ pub(crate) fn layers(
     let mut tops = vec![in alloc; None; fold.sums().len() as usize]?;
     for done in 0..bricks {
         let menu = menus.of(bricks - done);
+        // no walk costs so much, so each node is live
         add_layer(
             alloc,
             targets,
             menu,
+            i128::MAX,
             &mut layers,
             done,
             &mut layer,
@@ -63,7 +66,8 @@ pub(crate) fn layers(
 }
 
 /// All layers, where the bound leaves hope for a step to the end: none where no node of some layer leads to a step that
-/// gains what the bound asks for. It is asked for the last layer, and for each that differs from the one behind it.
+/// gains what the bound asks for. It is asked before each brick, and only nodes that can still lead to such a step are
+/// sources of moves.
 pub(crate) fn layers_under<B: Bound>(
     alloc: Global,
     fold: &Fold,
@@ -81,8 +85,10 @@ pub(crate) fn layers_under<B: Bound>(
     requires within { AreWithin fold.now.program.bricks point.now }
     requires short { k < 64 }
     ensures layers { IfOk result (λ found. MatchOption found (IsHopeless fold.now point.now k (B.last bound.new))
-        (AreLayers fold.now point.now k (length fold.now.program.bricks + 1))) }
+        (AreLayersUnder fold.now point.now k (length fold.now.program.bricks + 1) (B.last bound.new))) }
     ensures kept { B.later bound.old bound.new }
+    ensures tried { TriesLiveNodes fold.now.program fold.now.phase (vectors fold.now.sums) point.now k
+        (B.last bound.old) (moves.new - moves.old) }
     ensures untried { NoneLives fold.now point.now k (B.last bound.old) → moves.new ≡ moves.old }
     ensures rising { moves.old ≤ moves.new }
     ensures counted { moves.new ≤ moves.old + length fold.now.program.bricks * (length fold.now.sums * length fold.now.sums) }
@@ -90,58 +96,60 @@ pub(crate) fn layers_under<B: Bound>(
     let bricks = fold.program().n();
     let mut layer = last_layer(alloc, fold, point, k)?;
     let mut floor = floor(fold, menus, point, k);
-    if is_beaten(bound, k, &layer, floor) {
-        return Ok(None);
-    }
     let mut layers = Layers::new(alloc, &layer)?;
     let mut tops = vec![in alloc; None; fold.sums().len() as usize]?;
     for done in 0..bricks {
+        let Some(limit) = limit_under(bound, k, &layer, floor) else {
+            return Ok(None);
+        };
         let menu = menus.of(bricks - done);
         floor -= least_change(menu);
-        let differs = add_layer(
+        add_layer(
             alloc,
             targets,
             menu,
+            limit,
             &mut layers,
             done,
             &mut layer,
             &mut tops,
             moves,
         )?;
-        if differs {
-            if is_beaten(bound, k, &layer, floor) {
-                return Ok(None);
-            }
-        }
     }
     Ok(Some(layers))
 }
 
-/// Whether a walk through no node of the layer gains what the bound asks for, where moves of the bricks before it lower
-/// the cost to `floor` at most.
-fn is_beaten<B: Bound>(bound: &mut B, k: u32, layer: &[Option<i128>], floor: i128) -> bool
+/// The most that a walk through a node of the layer costs which gains what the bound asks for, where moves of the
+/// bricks before it lower the cost to `floor` at most; none where no node costs so little.
+fn limit_under<B: Bound>(bound: &mut B, k: u32, layer: &[Option<i128>], floor: i128) -> Option<i128>
     requires small { unsigned_abs floor ≤ 2 ^ 123 }
-    ensures beaten { OnTrue result (AreBeaten k (B.last bound.new) layer.now floor) }
-    ensures hope { OnFalse result (HasHope k (B.last bound.new) layer.now floor) }
+    ensures limit { MatchOption result (AreBeaten k (B.last bound.new) layer.now floor)
+        (HasHope k (B.last bound.new) layer.now floor) }
     ensures kept { B.later bound.old bound.new }
     ensures better { IsNoWorse (B.last bound.old) (B.last bound.new) }
 {
     let need = needed(bound.now(), k);
-    !any_within(layer, -need - floor)
+    let limit = -need - floor;
+    if any_within(layer, limit) {
+        Some(limit)
+    } else {
+        None
+    }
 }
 
-/// Adds the layer over the last one, which is number `last`, and says whether it differs from that one. The last one
-/// stands in `layer`, as does the new one afterwards; `tops` has bounds for the moves over it.
+/// Adds the layer over the last one, which is number `last`. Cells of that one which cost more than the limit are no
+/// sources of moves. It stands in `layer`, as does the new one afterwards; `tops` has bounds for the moves over it.
 fn add_layer(
     alloc: Global,
     targets: &Targets,
     menu: &[PricedMove],
+    limit: i128,
     layers: &mut Layers,
     last: u32,
     layer: &mut [Option<i128>],
     tops: &mut [Option<i128>],
     moves: &mut Moves,
-) -> Result<bool, AllocError>
+) -> Result<(), AllocError>
     requires rising { IsTrue (is_rising (vectors targets.now)) }
     requires fair { All (IsFair (length targets.now)) menu.now }
     requires size { length layer.old ≡ length targets.now }
@@ -149,19 +157,18 @@ fn add_layer(
     requires stays { MayStay (vectors targets.now) menu.now layer.old }
     requires count { length layers.old ≡ last + 1 }
     requires last { slice_get layers.old last ≡ Some layer.old }
-    requires tops { AreTops (vectors targets.now) layer.old tops.old }
-    ensures over { IsLayerOver (vectors targets.now) menu.now layer.old layer.new }
+    requires tops { AreTops (vectors targets.now) (live limit layer.old) layer.old tops.old }
+    ensures over { IsLayerOver (vectors targets.now) menu.now (live limit layer.old) layer.old layer.new }
     ensures added { OnOk result (layers.new ≡ layers.old ++ layer.new ∷ []) }
-    ensures tops { OnOk result (AreTops (vectors targets.now) layer.new tops.new) }
+    ensures tops { OnOk result (AreTops (vectors targets.now) (live limit layer.new) layer.new tops.new) }
     ensures rising { moves.old ≤ moves.new }
     ensures counted { moves.new ≤ moves.old + length menu.now * length targets.now }
+    ensures tried { IsTried (length menu.now) layer.old limit (moves.new - moves.old) }
 {
-    if lower_by(targets, menu, layers.get(last), layer, tops, moves) {
-        widen(targets, layers.get(last), layer, tops);
-        layers.push(alloc, layer)?;
-        Ok(true)
+    if lower_by(targets, menu, layers.get(last), limit, layer, tops, moves) {
+        widen(targets, layers.get(last), limit, layer, tops);
+        layers.push(alloc, layer)
     } else {
-        layers.repeat()?;
-        Ok(false)
+        layers.repeat()
     }
 }

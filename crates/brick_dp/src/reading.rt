@@ -1,6 +1,6 @@
 //! Reading the best step off the layers.
 
-ghost use Rattle.std.specs.Prelude.{◌≡◌, ◌+◌, ◌<◌, ◌<ℤ◌, pos, ◌++◌, ◌∷◌, [], length, IsTrue, IfOk, OnOk};
+ghost use Rattle.std.specs.Prelude.{◌≡◌, ◌+◌, ◌<◌, ◌<ℤ◌, ◌-ℤ◌, pos, ◌++◌, ◌∷◌, [], length, IsTrue, IfOk, OnOk};
 ghost use Rattle.lattice_theory.specs.Vectors.{is_rising};
 ghost use Rattle.lattice_theory.specs.SignedSums.{vectors};
 ghost use Rattle.fold_theory.specs.Programs.{IsLength, AreWithin};
@@ -18,7 +18,8 @@ use layer_sieve::{Layers, Targets, first_choice};
 use std::alloc::{AllocError, Global};
 
 /// The step that begins at zero in the first layer and takes from layer to layer the first move that costs as little
-/// as walks do. Walks from zero cost `total`. The last layer stands first.
+/// as walks do. Walks from zero cost `total`, and the layers are right for steps that gain as much. The last layer
+/// stands first.
 pub(crate) fn step_from(
     alloc: Global,
     fold: &Fold,
@@ -34,7 +35,7 @@ pub(crate) fn step_from(
     requires menus { AreMenus fold.now _point.now k menus.now }
     requires within { AreWithin fold.now.program.bricks _point.now }
     requires length { IsLength fold.now.program k }
-    requires layers { AreLayers fold.now _point.now k (length fold.now.program.bricks + 1) layers.now }
+    requires layers { AreLayers fold.now _point.now k (length fold.now.program.bricks + 1) (pos 0 -ℤ total) layers.now }
     requires first { IsFirstCost fold.now layers.now total }
     requires lowers { total <ℤ pos 0 }
     ensures { IfOk result (IsFound fold.now _point.now k) }

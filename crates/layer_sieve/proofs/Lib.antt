@@ -4,3 +4,4 @@ pub mod TargetLaws
 pub mod ReachLaws
 pub mod FlagLaws
 pub mod WiderLaws
+pub mod TriedLaws

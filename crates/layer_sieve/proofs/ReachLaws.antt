@@ -1,7 +1,7 @@
 -- What a move reaches, and what it offers.
-use Rattle.std.proofs.Common.{◌≡◌, ℕ, ◌+◌, ◌^◌, ◌<◌, ◌≤◌, ℤ, ◌+ℤ◌, ◌-ℤ◌, true, List, length, refl, ap, arith, sym, ◌∙◌}
-use Rattle.std.proofs.Common.{Option, Some, None, slice_get, subst, ◌⊎◌, inl, inr, get_or, unsigned_abs, pos, negsuc}
-use Rattle.std.proofs.Common.{FitsSigned}
+use Rattle.std.proofs.Common.{◌≡◌, ℕ, ◌+◌, ◌^◌, ◌<◌, ◌≤◌, ℤ, ◌+ℤ◌, ◌-ℤ◌, ◌≤ℤ◌, true, List, length, refl, ap, arith}
+use Rattle.std.proofs.Common.{sym, ◌∙◌, Option, Some, None, slice_get, subst, ◌⊎◌, inl, inr, get_or, unsigned_abs}
+use Rattle.std.proofs.Common.{FitsSigned, pos, negsuc}
 use Rattle.std.specs.Int.{w128}
 use Rattle.std.proofs.lemmas.Int.{ints}
 use Rattle.std.proofs.lemmas.Option.{slice_get-get_or, slice_get_within}
@@ -10,8 +10,9 @@ use Rattle.std.proofs.lemmas.Bool.{cases_lt}
 use Rattle.lattice_theory.specs.Vectors.{Vector, is_rising}
 use Rattle.lattice_theory.specs.SignedSums.{Sum, vectors}
 use Rattle.sieve_laws.specs.declared.PricedMove.{PricedMove}
-use Rattle.sieve_laws.specs.Sieve.{Layer, Menu, Leads, Reaches, IsTarget, Goes}
+use Rattle.sieve_laws.specs.Sieve.{Layer, Menu, Leads, Reaches, IsTarget, Goes, live}
 use Rattle.sieve_laws.proofs.Cells.{at_same, not_none}
+use Rattle.sieve_laws.proofs.Live.{live_is, is_live, reaches_live}
 use Rattle.sieve_laws.proofs.Lowering.{leads_once, reaches_once}
 use Rattle.layer_sieve.specs.declared.reaching.Reach.{Reach}
 use Rattle.layer_sieve.specs.Reaching.{IsReach, IsChoice}
@@ -58,6 +59,29 @@ module _ (zs : List Vector) (next : Layer) (h w : ℕ) where
   pub unreached : (o : Option Reach) → o ≡ None → IsReach zs next h w o → (a : ℤ) → Reaches zs next h w a → ⊥
   unreached None e none = none
   unreached (Some q) e both = absurd (cc)
+
+  -- a sum is live where walks from there cost at most the limit
+  pub reach_live : (limit : ℤ) (r : Reach) → IsReach zs next h w (Some r) → r.rest ≤ℤ limit →
+      IsReach zs (live limit next) h w (Some r)
+  reach_live limit r (leads, cell) low = (leads, is_live limit next r.to r.rest cell low)
+
+  pub reach_dead : is_rising zs ≡ true → (limit : ℤ) (r : Reach) → IsReach zs next h w (Some r) →
+      (r.rest ≤ℤ limit → ⊥) → IsReach zs (live limit next) h w None
+  reach_dead rising limit r (leads, cell) high a reach =
+      let (whole, low) = reaches_live zs next limit h w a reach in
+      let same : a ≡ r.rest =
+      reaches_once zs rising next h w a r.rest whole (record { to = r.to; leads = leads; cell = cell }) in
+      high (subst (λ b. b ≤ℤ limit) same low)
+
+  pub reach_none : (limit : ℤ) (o : Option Reach) → o ≡ None → IsReach zs next h w o →
+      IsReach zs (live limit next) h w None
+  reach_none limit None e none = λ a reach. none a (reaches_live zs next limit h w a reach).0
+  reach_none limit (Some r) e reach = absurd (cc)
+
+  -- what is reached live stands in the whole layer
+  pub whole_cell : (limit : ℤ) (r : Reach) → IsReach zs (live limit next) h w (Some r) →
+      slice_get next r.to ≡ Some (Some r.rest)
+  whole_cell limit r (leads, cell) = (live_is limit next r.to r.rest cell).0
 
 -- ---- numbers that 128 bits hold
 

@@ -9,8 +9,9 @@ use Rattle.std.specs.declared.alloc.Global.{Global}
 use Rattle.lattice_theory.specs.Vectors.{Vector}
 use Rattle.lattice_theory.specs.SignedSums.{Sum, vectors}
 use Rattle.sieve_laws.specs.Sieve.{IsTarget}
+use Rattle.brick_sums.specs.Places.{width}
 use Rattle.sieve_laws.proofs.Cells.{at_same}
-use Rattle.layer_sieve.specs.Targets.{IsTargetRow, AreTargets, IsWord}
+use Rattle.layer_sieve.specs.Targets.{IsTargetRow, AreTargetsOf}
 
 module _ {A : Type 0} where
   some_is : (a b : A) → Some a ≡ Some b → a ≡ b
@@ -86,25 +87,31 @@ rows_more zs rows more n row is leads so_far = record {
         subst (λ (r : Row). IsTargetRow zs h r.items) same
         (subst (λ g. IsTargetRow zs g row.items) (sym (place ∙ so_far.size)) leads)
 
-pub rows_all : (fs : List Sum) (rows : List Row) (n : ℕ) → n ≡ length fs → RowsUpTo (vectors fs) rows n →
-    AreTargets (vectors fs) rows
-rows_all fs rows n all so_far = record {
-  size = so_far.size ∙ all ∙ sym (length-map {A = Sum} {B = Vector} fs (λ s. s.vector));
-  each = so_far.each;
+pub rows_all : (fs : List Sum) (rows : List Row) (n : ℕ) → n ≡ length fs →
+    All (λ v. length v ≡ width fs) (vectors fs) → RowsUpTo (vectors fs) rows n → AreTargetsOf fs rows
+rows_all fs rows n all widths so_far = record {
+  targets = record {
+    size = so_far.size ∙ all ∙ sym (length-map {A = Sum} {B = Vector} fs (λ s. s.vector));
+    each = so_far.each;
+  };
+  widths = widths;
 }
 
--- ---- entries that a word holds
+-- ---- what holds of each vector, one after the other
 
-pub words_more : (vs : List Vector) (n : ℕ) (v : Vector) → slice_get vs n ≡ Some v → All IsWord v →
-    ((j : ℕ) (u : Vector) → j < n → slice_get vs j ≡ Some u → All IsWord u) → (j : ℕ) (u : Vector) → j < n + 1 →
-    slice_get vs j ≡ Some u → All IsWord u
-words_more vs n v here words so_far j u low there = elim (cases_lt j n) [
-  | inl before ↦ so_far j u before there
-  | inr high ↦
-      let last : j ≡ n = omega (arith, low, high) in
-      subst (λ w. All IsWord w) (at_same (slice_get vs n) v u here (ap (slice_get vs) (sym last) ∙ there)) words
-]
+module _ (P : Vector → Type 0) (vs : List Vector) where
+  -- it holds of the first n
+  abbrev pub HoldsUpTo : ℕ → Type 0
+  HoldsUpTo n = (j : ℕ) (u : Vector) → j < n → slice_get vs j ≡ Some u → P u
 
-pub words_all : (vs : List Vector) (n : ℕ) → length vs ≤ n →
-    ((j : ℕ) (u : Vector) → j < n → slice_get vs j ≡ Some u → All IsWord u) → All (All IsWord) vs
-words_all vs n all so_far i d low = so_far i (get_or vs i d) (omega (arith, low, all)) (slice_get-get_or vs i d low)
+  pub holds_more : (n : ℕ) (v : Vector) → slice_get vs n ≡ Some v → P v → HoldsUpTo n → HoldsUpTo (n + 1)
+  holds_more n v here holds so_far j u low there = elim (cases_lt j n) [
+    | inl before ↦ so_far j u before there
+    | inr high ↦
+        let last : j ≡ n = omega (arith, low, high) in
+        subst P (at_same (slice_get vs n) v u here (ap (slice_get vs) (sym last) ∙ there)) holds
+  ]
+
+  pub holds_all : (n : ℕ) → length vs ≤ n → HoldsUpTo n → All P vs
+  holds_all n all so_far i d low =
+      so_far i (get_or vs i d) (omega (arith, low, all)) (slice_get-get_or vs i d low)

@@ -1,8 +1,10 @@
 -- Where moves lead from sums.
-use Rattle.std.specs.Prelude.{◌≡◌, ℕ, ℤ, pos, neg_ℤ, ◌^◌, ◌≤ℤ◌, ◌<ℤ◌, List, length, Option, Some, Vec, slice_get}
+use Rattle.std.specs.Prelude.{◌≡◌, ℕ, ℤ, pos, neg_ℤ, ◌^◌, ◌≤ℤ◌, ◌<ℤ◌, List, length, All, Option, Some, Vec, slice_get}
 use Rattle.std.specs.declared.alloc.Global.{Global}
 use Rattle.lattice_theory.specs.Vectors.{Vector}
+use Rattle.lattice_theory.specs.SignedSums.{Sum, vectors}
 use Rattle.sieve_laws.specs.Sieve.{IsTarget}
+use Rattle.brick_sums.specs.Places.{width}
 
 -- the place to which the move at place h leads from each sum
 pub record IsTargetRow (zs : List Vector) (h : ℕ) (row : List (Option ℕ)) : Type 0 where
@@ -13,6 +15,11 @@ pub record IsTargetRow (zs : List Vector) (h : ℕ) (row : List (Option ℕ)) : 
 pub record AreTargets (zs : List Vector) (rows : List (Vec (Option ℕ) Global)) : Type 0 where
   pub size : length rows ≡ length zs
   pub each : (h : ℕ) (row : Vec (Option ℕ) Global) → slice_get rows h ≡ Some row → IsTargetRow zs h row.items
+
+-- the same for sums, all of one width
+pub record AreTargetsOf (sums : List Sum) (rows : List (Vec (Option ℕ) Global)) : Type 0 where
+  pub targets : AreTargets (vectors sums) rows
+  pub widths : All (λ v. length v ≡ width sums) (vectors sums)
 
 -- an entry that a word holds
 abbrev pub IsWord : ℤ → Type 0

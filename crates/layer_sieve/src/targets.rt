@@ -22,14 +22,14 @@ pub struct Targets<'a> {
 
 impl<'a> Model for Targets<'a> {
     ghost use Rattle.std.specs.Prelude.{List};
-    ghost use Rattle.lattice_theory.specs.SignedSums.{Sum, vectors};
-    ghost use Rattle.layer_sieve.specs.Targets.{AreTargets};
+    ghost use Rattle.lattice_theory.specs.SignedSums.{Sum};
+    ghost use Rattle.layer_sieve.specs.Targets.{AreTargetsOf};
 
     ghost Value = { List Sum };
 
     ghost view = { λ t. t.sums.now };
 
-    ghost invariant = { λ t. AreTargets (vectors t.sums.now) t.rows.items };
+    ghost invariant = { λ t. AreTargetsOf t.sums.now t.rows.items };
 }
 
 impl<'a> Targets<'a> {
@@ -38,6 +38,7 @@ impl<'a> Targets<'a> {
         ensures { IfOk result (λ t. t ≡ sums.now) }
     {
         all_words(sums);
+        one_width(sums);
         let mut rows = Vec::with_capacity(alloc, sums.len() as usize)?;
         for h in 0..sums.len() {
             rows.push(target_row(alloc, sums, h)?)?;
@@ -45,9 +46,10 @@ impl<'a> Targets<'a> {
         Ok(Targets { sums, rows })
     }
 
-    /// How many sums there are.
+    /// How many sums there are, all of one width.
     pub fn len(&self) -> u32
-        ensures { result ≡ length self.now }
+        ensures count { result ≡ length self.now }
+        ensures widths { All (λ v. length v ≡ width self.now) (vectors self.now) }
     {
         self.sums.len()
     }
@@ -115,6 +117,15 @@ fn all_words(sums: &Sums)
 {
     for i in 0..sums.len() {
         words(sums.get(i));
+    }
+}
+
+/// Law: the sums are all of one width. The loop does nothing but read them.
+fn one_width(sums: &Sums)
+    ensures { All (λ v. length v ≡ width sums.now) (vectors sums.now) }
+{
+    for i in 0..sums.len() {
+        let _sum = sums.get(i);
     }
 }
 

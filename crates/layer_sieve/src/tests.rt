@@ -12,7 +12,7 @@ use std::rt::HostRuntime;
 use std::test::Fail;
 
 /// One generator: what the first place gives, the second takes.
-fn exchange(alloc: Global) -> Result<Matrix, AllocError>
+pub(crate) fn exchange(alloc: Global) -> Result<Matrix, AllocError>
     ensures narrow { IfOk result (λ gens. All IsNarrow gens.rows) }
     ensures distinct { IfOk result (λ gens. AreGenerators gens.rows) }
 {

@@ -4,19 +4,20 @@ ghost use Rattle.std.specs.Prelude.{◌≡◌, ◌<◌, ◌≤◌, ◌^◌, ℤ,
 ghost use Rattle.std.specs.Bool.{OnTrue};
 ghost use Rattle.lattice_theory.specs.Vectors.{is_rising};
 ghost use Rattle.lattice_theory.specs.SignedSums.{vectors};
-ghost use Rattle.sieve_laws.specs.Sieve.{IsTop, IsIdle, AreTops};
+ghost use Rattle.sieve_laws.specs.Sieve.{IsTop, IsIdle, AreTops, live, under};
 ghost use Rattle.layer_sieve.specs.Reaching.{AreAtMost, IsFair};
-ghost use Rattle.layer_sieve.specs.Falls.{AreKept, IsLow, IsWider, IsSpread};
+ghost use Rattle.layer_sieve.specs.Falls.{AreKept, FallsLeast, FallsMost, IsLow, IsWider, IsSpread};
 
-use crate::reaching::reached_from;
+use crate::reaching::live_from;
 use crate::targets::Targets;
 use sieve_laws::PricedMove;
 
-/// Whether the move lowers no cell. `tops` has bounds for the moves, which may be wide; one that does not show it is
-/// made anew for the layer.
+/// Whether the move lowers no cell by way of a live one. `tops` has bounds for the moves, which may be wide; one that
+/// does not show it is made anew for the layer.
 pub(crate) fn is_idle(
     targets: &Targets,
     next: &[Option<i128>],
+    limit: i128,
     m: PricedMove,
     tops: &mut [Option<i128>],
 ) -> bool
@@ -24,13 +25,13 @@ pub(crate) fn is_idle(
     requires fair { IsFair (length targets.now) m }
     requires size { length next.now ≡ length targets.now }
     requires small { AreAtMost (2 ^ 122) next.now }
-    requires tops { AreTops (vectors targets.now) next.now tops.old }
-    ensures idle { OnTrue result (IsIdle (vectors targets.now) next.now m) }
-    ensures tops { AreTops (vectors targets.now) next.now tops.new }
+    requires tops { AreTops (vectors targets.now) (live limit next.now) next.now tops.old }
+    ensures idle { OnTrue result (IsIdle (vectors targets.now) (live limit next.now) next.now m) }
+    ensures tops { AreTops (vectors targets.now) (live limit next.now) next.now tops.new }
 {
     let at = m.place as usize;
     if !is_low(tops[at], m.change) {
-        tops[at] = top(targets, next, m.place);
+        tops[at] = top(targets, next, limit, m.place);
     }
     is_low(tops[at], m.change)
 }
@@ -45,18 +46,18 @@ fn is_low(top: Option<i128>, change: i128) -> bool
     }
 }
 
-/// The most that a sum costs above the one to which the move leads from there; none where there is no walk from such
-/// a sum.
-fn top(targets: &Targets, next: &[Option<i128>], h: u32) -> Option<i128>
+/// The most that a sum costs above the live one to which the move leads from there; none where there is no walk from
+/// such a sum.
+fn top(targets: &Targets, next: &[Option<i128>], limit: i128, h: u32) -> Option<i128>
     requires rising { IsTrue (is_rising (vectors targets.now)) }
     requires listed { h < length targets.now }
     requires size { length next.now ≡ length targets.now }
     requires small { AreAtMost (2 ^ 122) next.now }
-    ensures { IfSome result (IsTop (vectors targets.now) next.now h) }
+    ensures { IfSome result (IsTop (vectors targets.now) (live limit next.now) next.now h) }
 {
     let mut top = i128::MIN;
     for from in 0..targets.len() {
-        if let Some(reached) = reached_from(targets, next, h, from) {
+        if let Some(reached) = live_from(targets, next, limit, h, from) {
             let cost = next[from as usize]?;
             top = top.max(cost - reached.rest);
         }
@@ -64,20 +65,21 @@ fn top(targets: &Targets, next: &[Option<i128>], h: u32) -> Option<i128>
     Some(top)
 }
 
-/// Makes the bounds over a layer of those over the next one, from whose cells those of the layer fell: each widens by
-/// the spread of the falls. None is known any more where a cell is new.
+/// Makes the bounds over the live cells of a layer of those over the live cells of the next one, from whose cells those
+/// of the layer fell: each widens by the spread of the falls. None is known any more where a cell came to life.
 pub fn widen(
     _targets: &Targets,
     next: &[Option<i128>],
+    limit: i128,
     layer: &[Option<i128>],
     tops: &mut [Option<i128>],
 )
     requires size { length layer.now ≡ length next.now }
     requires kept { AreKept next.now layer.now }
-    requires tops { AreTops (vectors _targets.now) next.now tops.old }
-    ensures { AreTops (vectors _targets.now) layer.now tops.new }
+    requires tops { AreTops (vectors _targets.now) (live limit next.now) next.now tops.old }
+    ensures { AreTops (vectors _targets.now) (live limit layer.now) layer.now tops.new }
 {
-    let spread = spread(next, layer);
+    let spread = spread(next, limit, layer);
     for h in 0..tops.len() {
         tops[h] = wider(tops[h], spread);
     }
@@ -90,18 +92,56 @@ fn wider(top: Option<i128>, spread: Option<i128>) -> Option<i128>
     top?.checked_add(spread?)
 }
 
-/// How much more the cell fell that fell most than the one that fell least; none where a cell is new.
-fn spread(next: &[Option<i128>], layer: &[Option<i128>]) -> Option<i128>
+/// How much more the live cell fell that fell most than the cell that fell least; none where a cell came to life.
+fn spread(next: &[Option<i128>], limit: i128, layer: &[Option<i128>]) -> Option<i128>
     requires size { length layer.now ≡ length next.now }
-    ensures { IfSome result (IsSpread next.now layer.now) }
+    ensures { IfSome result (IsSpread next.now limit layer.now) }
 {
-    let (mut least, mut most) = (i128::MAX, i128::MIN);
-    for at in 0..next.len() {
-        if let Some(after) = layer[at] {
-            let fall = next[at]?.checked_sub(after)?;
-            least = least.min(fall);
+    most_fall(next, limit, layer)?.checked_sub(least_fall(next, layer)?)
+}
+
+/// How much the live cell fell that fell most; none where a cell came to life.
+fn most_fall(next: &[Option<i128>], limit: i128, layer: &[Option<i128>]) -> Option<i128>
+    requires size { length layer.now ≡ length next.now }
+    ensures { IfSome result (FallsMost next.now limit layer.now) }
+{
+    let mut most = i128::MIN;
+    for at in 0..layer.len() {
+        if let Some(after) = cost_under(limit, layer[at]) {
+            let before = cost_under(limit, next[at])?;
+            let fall = before.checked_sub(after)?;
             most = most.max(fall);
         }
     }
-    most.checked_sub(least)
+    Some(most)
 }
+
+/// The cost, where it is at most the limit.
+fn cost_under(limit: i128, cost: Option<i128>) -> Option<i128>
+    ensures { result ≡ under limit cost }
+{
+    match cost {
+        Some(cost) if cost <= limit => Some(cost),
+        _ => None,
+    }
+}
+
+/// How much the cell fell that fell least.
+fn least_fall(next: &[Option<i128>], layer: &[Option<i128>]) -> Option<i128>
+    requires size { length layer.now ≡ length next.now }
+    ensures { IfSome result (FallsLeast next.now layer.now) }
+{
+    let mut least = i128::MAX;
+    for at in 0..layer.len() {
+        if let Some(before) = next[at] {
+            if let Some(after) = layer[at] {
+                let fall = before.checked_sub(after)?;
+                least = least.min(fall);
+            }
+        }
+    }
+    Some(least)
+}
+
+#[cfg(test)]
+mod tests;

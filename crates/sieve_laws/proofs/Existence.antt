@@ -1,12 +1,12 @@
 -- Where there is a walk from a sum, there is a best one: the moves of a brick are gone through, each with the best walk
 -- behind it.
-use Rattle.std.proofs.Common.{◌≡◌, ℕ, ◌^◌, ℤ, pos, ◌+ℤ◌, ◌≤ℤ◌, true, Bool, false, List, [], ◌∷◌, refl, ap, arith, sym, ◌∙◌}
+use Rattle.std.proofs.Common.{◌≡◌, ℕ, ◌^◌, ℤ, pos, ◌+ℤ◌, ◌≤ℤ◌, true, Bool, false, List, [], ◌∷◌, refl, arith, sym}
 use Rattle.std.proofs.Common.{Contains, Option, Some, None, subst, ◌⊎◌, inl, inr, IsTrue, int_lt}
 use Rattle.std.proofs.lemmas.Int.{ints}
 use Rattle.std.specs.Ordering.{is_le}
 use Rattle.std.specs.Cmp.Lexicographic.{slice_cmp}
 use Rattle.fold_theory.specs.declared.Phase.{Phase}
-use Rattle.fold_theory.specs.Programs.{Program, Brick, Bricks, IsWithin, is_within}
+use Rattle.fold_theory.specs.Programs.{Program, Brick, Bricks, is_within}
 use Rattle.lattice_theory.specs.Vectors.{Vector, lex_cmp, is_rising, add, scale}
 use Rattle.lattice_theory.specs.Matrices.{product}
 use Rattle.run_theory.specs.Walks.{brick_change, end_cost, WalkCosts}

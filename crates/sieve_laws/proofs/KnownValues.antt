@@ -1,8 +1,7 @@
 -- The words of the sieve at values worked by hand: the sums of one entry -1, 0 and 1, which have the places 0, 1 and 2.
 use Rattle.std.proofs.Common.{◌≡◌, pos, negsuc, List, [], ◌∷◌, Some, None, refl}
 use Rattle.lattice_theory.specs.Vectors.{Vector}
-use Rattle.sieve_laws.specs.declared.PricedMove.{PricedMove}
-use Rattle.sieve_laws.specs.Sieve.{Layer, Menu, Leads, Reaches, Goes, lesser, after}
+use Rattle.sieve_laws.specs.Sieve.{Layer, Menu, Leads, Reaches, Goes, lesser, after, live}
 
 abbrev three : List Vector
 three = (negsuc 0 ∷ []) ∷ (pos 0 ∷ []) ∷ (pos 1 ∷ []) ∷ []
@@ -23,6 +22,10 @@ known_tie = refl
 
 known_endless : lesser None (Some (pos 9)) ≡ Some (pos 9)
 known_endless = refl
+
+-- under the limit 4 the cell of -1 is dead, and the one that costs just 4 is live
+known_live : live (pos 4) layer ≡ None ∷ Some (pos 4) ∷ None ∷ []
+known_live = refl
 
 -- four times the move 1 from 2 leads to 6
 known_after : after 2 (pos 2 ∷ []) (pos 1 ∷ []) ≡ pos 6 ∷ []

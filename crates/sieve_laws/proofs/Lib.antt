@@ -1,4 +1,5 @@
 pub mod Cells
+pub mod Live
 pub mod Lowering
 pub mod Tops
 pub mod Rows

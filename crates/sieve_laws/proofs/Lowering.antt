@@ -7,14 +7,14 @@ use Rattle.std.proofs.lemmas.List.{length-set}
 use Rattle.std.proofs.lemmas.Option.{slice_get_within}
 use Rattle.std.proofs.Math.ListN.{set}
 use Rattle.std.specs.Prelude.{slice_get}
-use Rattle.std.specs.Int.{int_min}
-use Rattle.lattice_theory.specs.Vectors.{Vector, add, is_rising, lex_less}
+use Rattle.lattice_theory.specs.Vectors.{Vector, add, is_rising}
 use Rattle.lattice_laws.proofs.Rising.{lex_less_irrefl}
 use Rattle.walk_laws.proofs.Orders.{rising_places}
-use Rattle.sieve_laws.proofs.Cells.{at_same, not_none, read_at, slice_get-set_same, slice_get-set_other}
+use Rattle.sieve_laws.proofs.Cells.{at_same, read_at, slice_get-set_same, slice_get-set_other}
 use Rattle.sieve_laws.specs.declared.PricedMove.{PricedMove}
-use Rattle.sieve_laws.specs.Sieve.{Layer, Menu, Leads, Reaches, IsOffer, lesser, IsLoweredBy, IsAtMost, IsIdle, IsTop}
-use Rattle.sieve_laws.specs.Sieve.{AreTops, Goes, MayStay, IsLayerOver}
+use Rattle.sieve_laws.specs.Sieve.{Layer, Menu, Leads, Reaches, IsOffer, lesser, IsLoweredBy, IsAtMost, IsIdle}
+use Rattle.sieve_laws.specs.Sieve.{Goes, MayStay, IsLayerOver, live}
+use Rattle.sieve_laws.proofs.Live.{goes_live}
 
 -- ---- the lesser of two costs
 
@@ -113,10 +113,10 @@ module _ (zs : List Vector) (next : Layer) (m : PricedMove) (before : Layer) whe
 -- ---- one move after the other
 
 -- the layer after the first n moves of the menu, where each that is left out is idle
-pub record IsLowered (zs : List Vector) (menu : Menu) (next : Layer) (n : ℕ) (layer : Layer) : Type 0 where
+pub record IsLowered (zs : List Vector) (menu : Menu) (limit : ℤ) (next : Layer) (n : ℕ) (layer : Layer) : Type 0 where
   pub size : length layer ≡ length zs
   pub attained : (w : ℕ) (c : ℤ) → slice_get layer w ≡ Some (Some c) → (i : ℕ) × Goes zs menu next w i c
-  pub least : (w i : ℕ) (c : ℤ) → i < n → Goes zs menu next w i c → IsAtMost layer w c
+  pub least : (w i : ℕ) (c : ℤ) → i < n → Goes zs menu (live limit next) w i c → IsAtMost layer w c
   pub below : (w : ℕ) (c : ℤ) → slice_get next w ≡ Some (Some c) → IsAtMost layer w c
 
 -- ---- where a move leads
@@ -146,9 +146,9 @@ module _ (zs : List Vector) (rising : is_rising zs ≡ true) where
       let cells : slice_get next two.to ≡ Some (Some a) = ap (slice_get next) (sym same) ∙ one.cell in
       at_same (Some a) a b refl (at_same (slice_get next two.to) (Some a) (Some b) cells two.cell)
 
-  pub lowered_none : (menu : Menu) (next : Layer) → length next ≡ length zs → MayStay zs menu next →
-      IsLowered zs menu next 0 next
-  lowered_none menu next size stay = record {
+  pub lowered_none : (menu : Menu) (limit : ℤ) (next : Layer) → length next ≡ length zs → MayStay zs menu next →
+      IsLowered zs menu limit next 0 next
+  lowered_none menu limit next size stay = record {
     size = size;
     attained = stay;
     least = λ w i c low goes. absurd (omega (arith, low));
@@ -167,29 +167,29 @@ module _ (zs : List Vector) (rising : is_rising zs ≡ true) where
       )
 
   -- a move that is idle is left out
-  pub lowered_idle : (menu : Menu) (next layer : Layer) (n : ℕ) (m : PricedMove) → slice_get menu n ≡ Some m →
-      IsIdle zs next m →
-      IsLowered zs menu next n layer → IsLowered zs menu next (n + 1) layer
-  lowered_idle menu next layer n m there idle so_far = record {
+  pub lowered_idle : (menu : Menu) (limit : ℤ) (next layer : Layer) (n : ℕ) (m : PricedMove) →
+      slice_get menu n ≡ Some m → IsIdle zs (live limit next) next m →
+      IsLowered zs menu limit next n layer → IsLowered zs menu limit next (n + 1) layer
+  lowered_idle menu limit next layer n m there idle so_far = record {
     size = so_far.size;
     attained = so_far.attained;
     least = λ w i c low goes. by w i c goes (cases_lt i n) low;
     below = so_far.below;
   }
     where
-      by : (w i : ℕ) (c : ℤ) → Goes zs menu next w i c → (i < n) ⊎ (n ≤ i) → i < n + 1 → IsAtMost layer w c
+      by : (w i : ℕ) (c : ℤ) → Goes zs menu (live limit next) w i c → (i < n) ⊎ (n ≤ i) → i < n + 1 → IsAtMost layer w c
       by w i c goes (inl before) low = so_far.least w i c before goes
       by w i c goes (inr high) low =
-          let offer = goes_by menu next w i n c m there (omega (arith, low, high)) goes in
+          let offer = goes_by menu (live limit next) w i n c m there (omega (arith, low, high)) goes in
           let kept = idle w offer.0 offer.1 in
           let cell = so_far.below w kept.0 kept.1 in
           (cell.0, cell.1, omega (arith, ints, cell.2, kept.2, offer.2))
 
   -- a move that is not left out lowers each cell to what it offers there
-  pub lowered_more : (menu : Menu) (next layer lower : Layer) (n : ℕ) (m : PricedMove) → slice_get menu n ≡ Some m →
-      IsLoweredBy zs next m layer lower →
-      IsLowered zs menu next n layer → IsLowered zs menu next (n + 1) lower
-  lowered_more menu next layer lower n m there by_move so_far = record {
+  pub lowered_more : (menu : Menu) (limit : ℤ) (next layer lower : Layer) (n : ℕ) (m : PricedMove) →
+      slice_get menu n ≡ Some m → IsLoweredBy zs (live limit next) m layer lower →
+      IsLowered zs menu limit next n layer → IsLowered zs menu limit next (n + 1) lower
+  lowered_more menu limit next layer lower n m there by_move so_far = record {
     size = by_move.size ∙ so_far.size;
     attained = attained;
     least = λ w i c low goes. by w i c goes (cases_lt i n) low;
@@ -202,25 +202,25 @@ module _ (zs : List Vector) (rising : is_rising zs ≡ true) where
           let less = lesser_kept a new.0 in
           (less.0, new.2 ∙ ap Some less.1, omega (arith, ints, low, less.2))
 
-      by : (w i : ℕ) (c : ℤ) → Goes zs menu next w i c → (i < n) ⊎ (n ≤ i) → i < n + 1 → IsAtMost lower w c
+      by : (w i : ℕ) (c : ℤ) → Goes zs menu (live limit next) w i c → (i < n) ⊎ (n ≤ i) → i < n + 1 → IsAtMost lower w c
       by w i c goes (inl before) low = from_kept w c (so_far.least w i c before goes)
       by w i c goes (inr high) low = told new.0 new.1 new.2
         where
-          offer : (a : ℤ) × Reaches zs next m.place w a × (c ≡ (m.change +ℤ a))
-          offer = goes_by menu next w i n c m there (omega (arith, low, high)) goes
+          offer : (a : ℤ) × Reaches zs (live limit next) m.place w a × (c ≡ (m.change +ℤ a))
+          offer = goes_by menu (live limit next) w i n c m there (omega (arith, low, high)) goes
 
           kept : (o : Option ℤ) × (slice_get layer w ≡ Some o)
           kept = read_at layer w
               (omega (arith, so_far.size, slice_get_within zs w offer.1.leads.from offer.1.leads.start))
 
-          new : (o : Option ℤ) × IsOffer zs next m w o × (slice_get lower w ≡ Some (lesser kept.0 o))
+          new : (o : Option ℤ) × IsOffer zs (live limit next) m w o × (slice_get lower w ≡ Some (lesser kept.0 o))
           new = by_move.cells w kept.0 kept.1
 
-          told : (o : Option ℤ) → IsOffer zs next m w o → slice_get lower w ≡ Some (lesser kept.0 o) →
+          told : (o : Option ℤ) → IsOffer zs (live limit next) m w o → slice_get lower w ≡ Some (lesser kept.0 o) →
               IsAtMost lower w c
           told None none e = absurd (none offer.0 offer.1)
           told (Some d) (b, other, costs) e =
-              let same : offer.0 ≡ b = reaches_once next m.place w offer.0 b offer.1 other in
+              let same : offer.0 ≡ b = reaches_once (live limit next) m.place w offer.0 b offer.1 other in
               let less = lesser_offer kept.0 d in
               (less.0, e ∙ ap Some less.1, omega (arith, ints, less.2, offer.2, costs, same))
 
@@ -230,35 +230,35 @@ module _ (zs : List Vector) (rising : is_rising zs ≡ true) where
           kept : (o : Option ℤ) × (slice_get layer w ≡ Some o)
           kept = read_at layer w (omega (arith, by_move.size, slice_get_within lower w (Some c) cell))
 
-          offered : (offer : Option ℤ) → IsOffer zs next m w offer → offer ≡ Some c → (i : ℕ) × Goes zs menu next w i c
+          offered : (offer : Option ℤ) → IsOffer zs (live limit next) m w offer → offer ≡ Some c →
+              (i : ℕ) × Goes zs menu next w i c
           offered None none e = absurd (cc)
           offered (Some d) (a, reach, costs) e =
-              let same : d ≡ c = at_same (Some d) d c refl e in
-              (n, record { move = m; there = there; rest = a; reach = reach; is = sym same ∙ costs })
+              let same : d ≡ c = at_same (Some d) d c refl e in (
+                n,
+                goes_live zs next limit menu w n c
+                    (record { move = m; there = there; rest = a; reach = reach; is = sym same ∙ costs }),
+              )
 
-          from : (o offer : Option ℤ) → slice_get layer w ≡ Some o → IsOffer zs next m w offer →
+          from : (o offer : Option ℤ) → slice_get layer w ≡ Some o → IsOffer zs (live limit next) m w offer →
               (o ≡ Some c) ⊎ (offer ≡ Some c) → (i : ℕ) × Goes zs menu next w i c
           from o offer here is (inl e) = so_far.attained w c (here ∙ ap Some e)
           from o offer here is (inr e) = offered offer is e
 
           told : (o : Option ℤ) → slice_get layer w ≡ Some o →
-              (offer : Option ℤ) × IsOffer zs next m w offer × (slice_get lower w ≡ Some (lesser o offer)) →
+              (offer : Option ℤ) × IsOffer zs (live limit next) m w offer
+              × (slice_get lower w ≡ Some (lesser o offer)) →
               (i : ℕ) × Goes zs menu next w i c
           told o here (offer, is, e) =
               from o offer here is (lesser_from o offer c
               (at_same (slice_get lower w) (lesser o offer) (Some c) e cell))
 
   -- after the whole menu the layer is that over the next one
-  pub lowered_all : (menu : Menu) (next layer : Layer) → IsLowered zs menu next (length menu) layer →
-      IsLayerOver zs menu next layer
-  lowered_all menu next layer all = record {
+  pub lowered_all : (menu : Menu) (limit : ℤ) (next layer : Layer) → IsLowered zs menu limit next (length menu) layer →
+      IsLayerOver zs menu (live limit next) next layer
+  lowered_all menu limit next layer all = record {
     size = all.size;
     attained = all.attained;
     least = λ w i c goes. all.least w i c (slice_get_within menu i goes.move goes.there) goes;
+    kept = all.below;
   }
-
-  -- no cell of the layer is above that of the next one
-  pub never_above : (menu : Menu) (next layer : Layer) → MayStay zs menu next → IsLayerOver zs menu next layer →
-      (w : ℕ) (c : ℤ) →
-      slice_get next w ≡ Some (Some c) → IsAtMost layer w c
-  never_above menu next layer stay over w c cell = let goes = stay w c cell in over.least w goes.0 c goes.1

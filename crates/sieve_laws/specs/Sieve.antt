@@ -1,15 +1,25 @@
 -- Layers of least costs over lists of sums, the moves of a brick between them, and what a layer is over the next one.
-use Rattle.std.specs.Prelude.{◌≡◌, ℕ, ◌^◌, ◌<◌, ℤ, pos, ◌+ℤ◌, ◌-ℤ◌, ◌≤ℤ◌, List, length, Option, Some, None, slice_get}
+use Rattle.std.specs.Prelude.{◌≡◌, ℕ, ◌^◌, ◌<◌, ℤ, pos, ◌+ℤ◌, ◌≤ℤ◌, int_le, cond, List, length, map, Option}
+use Rattle.std.specs.Prelude.{Some, None, slice_get}
 use Rattle.std.specs.Int.{int_min}
 use Rattle.fold_theory.specs.declared.Phase.{Phase}
 use Rattle.lattice_theory.specs.Vectors.{Vector, add, scale}
-use Rattle.fold_theory.specs.Programs.{Brick, IsWithin}
-use Rattle.run_theory.specs.Walks.{brick_change}
+use Rattle.fold_theory.specs.Programs.{Program, Brick, Bricks, IsWithin}
+use Rattle.run_theory.specs.Walks.{brick_change, WalkCosts}
 use Rattle.sieve_laws.specs.declared.PricedMove.{PricedMove}
 
 -- the least cost of a walk from each sum to the end, in the order of the sums; none where there is no walk
 abbrev pub Layer : Type 0
 Layer = List (Option ℤ)
+
+-- the cost, where it is at most the limit
+abbrev pub under : ℤ → Option ℤ → Option ℤ
+under limit None = None
+under limit (Some a) = cond (int_le a limit) (Some a) None
+
+-- the live cells of a layer: those that cost at most the limit
+abbrev pub live : ℤ → Layer → Layer
+live limit layer = map (under limit) layer
 
 -- the moves of a brick in the order of the sums, each with what it changes the cost by
 abbrev pub Menu : Type 0
@@ -69,18 +79,18 @@ pub record IsLoweredBy (zs : List Vector) (next : Layer) (m : PricedMove) (befor
 abbrev pub IsAtMost : Layer → ℕ → ℤ → Type 0
 IsAtMost layer w c = (a : ℤ) × (slice_get layer w ≡ Some (Some a)) × (a ≤ℤ c)
 
--- the move lowers no cell: where it reaches a sum, the cell is at most what it offers
-abbrev pub IsIdle : List Vector → Layer → PricedMove → Type 0
-IsIdle zs next m = (w : ℕ) (a : ℤ) → Reaches zs next m.place w a → IsAtMost next w (m.change +ℤ a)
+-- the move lowers no cell: where it reaches a source, the cell is at most what it offers
+abbrev pub IsIdle : List Vector → Layer → Layer → PricedMove → Type 0
+IsIdle zs from next m = (w : ℕ) (a : ℤ) → Reaches zs from m.place w a → IsAtMost next w (m.change +ℤ a)
 
--- no sum costs more than this above what the move at place h reaches from there
-abbrev pub IsTop : List Vector → Layer → ℕ → ℤ → Type 0
-IsTop zs next h top = (w : ℕ) (a : ℤ) → Reaches zs next h w a → IsAtMost next w (top +ℤ a)
+-- no sum costs more than this above the source that the move at place h reaches from there
+abbrev pub IsTop : List Vector → Layer → Layer → ℕ → ℤ → Type 0
+IsTop zs from next h top = (w : ℕ) (a : ℤ) → Reaches zs from h w a → IsAtMost next w (top +ℤ a)
 
 -- of each move, by its place, where a bound is known
-pub record AreTops (zs : List Vector) (next : Layer) (tops : List (Option ℤ)) : Type 0 where
+pub record AreTops (zs : List Vector) (from next : Layer) (tops : List (Option ℤ)) : Type 0 where
   pub size : length tops ≡ length zs
-  pub each : (h : ℕ) (top : ℤ) → slice_get tops h ≡ Some (Some top) → IsTop zs next h top
+  pub each : (h : ℕ) (top : ℤ) → slice_get tops h ≡ Some (Some top) → IsTop zs from next h top
 
 -- the first move of the menu at place i leads on, and together they cost c
 pub record Goes (zs : List Vector) (menu : Menu) (next : Layer) (w i : ℕ) (c : ℤ) : Type 0 where
@@ -94,11 +104,22 @@ pub record Goes (zs : List Vector) (menu : Menu) (next : Layer) (w i : ℕ) (c :
 abbrev pub MayStay : List Vector → Menu → Layer → Type 0
 MayStay zs menu next = (w : ℕ) (c : ℤ) → slice_get next w ≡ Some (Some c) → (i : ℕ) × Goes zs menu next w i c
 
--- the layer over the next one: from each sum the least cost of a move of the menu and the least walk behind it
-pub record IsLayerOver (zs : List Vector) (menu : Menu) (next layer : Layer) : Type 0 where
+-- the layer over the next one: each cost is that of a move of the menu and what stands behind it, and none is more
+-- than by the moves to sources
+pub record IsLayerOver (zs : List Vector) (menu : Menu) (from next layer : Layer) : Type 0 where
   pub size : length layer ≡ length zs
   pub attained : (w : ℕ) (c : ℤ) → slice_get layer w ≡ Some (Some c) → (i : ℕ) × Goes zs menu next w i c
-  pub least : (w i : ℕ) (c : ℤ) → Goes zs menu next w i c → IsAtMost layer w c
+  pub least : (w i : ℕ) (c : ℤ) → Goes zs menu from w i c → IsAtMost layer w c
+  pub kept : (w : ℕ) (c : ℤ) → slice_get next w ≡ Some (Some c) → IsAtMost layer w c
+
+-- each cost of the layer is that of a walk, and where a walk costs at most the limit, the cell costs no more
+pub record IsLayerUnder (p : Program) (phase : Phase) (zs : List Vector) (k : ℕ) (rests : Vector) (bs : List Brick)
+    (x : Bricks) (limit : ℤ) (layer : Layer) : Type 0 where
+  pub size : length layer ≡ length zs
+  pub walks : (j : ℕ) (w : Vector) (c : ℤ) → slice_get zs j ≡ Some w → slice_get layer j ≡ Some (Some c) →
+      (h : Bricks) × WalkCosts p phase zs k rests bs x w h c
+  pub least : (j : ℕ) (w : Vector) (h : Bricks) (c : ℤ) → slice_get zs j ≡ Some w →
+      WalkCosts p phase zs k rests bs x w h c → c ≤ℤ limit → IsAtMost layer j c
 
 -- the move of the menu at place i is the first of those that cost c
 pub record IsFirst (zs : List Vector) (menu : Menu) (next : Layer) (w i : ℕ) (c : ℤ) : Type 0 where

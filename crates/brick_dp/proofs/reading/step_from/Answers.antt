@@ -1,4 +1,4 @@
-use Rattle.std.proofs.Common.{◌≡◌, ◌-◌, ◌∙◌, ◌+◌, ◌≤◌, ◌^◌, ap, sym, subst, arith, rules, length, slice_get, Some, List, FitsSigned, ℕ, All, to_z}
+use Rattle.std.proofs.Common.{◌≡◌, ◌-◌, ◌∙◌, ◌+◌, ◌≤◌, ◌^◌, ap, sym, subst, arith, rules, length, slice_get, Some, List, pos, ◌-ℤ◌, FitsSigned, ℕ, All, to_z}
 use Rattle.std.specs.Int.{w128}
 use Rattle.std.proofs.lemmas.Int.{to_z-of_z}
 use Rattle.std.proofs.lemmas.List.{length-map}
@@ -10,7 +10,7 @@ use Rattle.fold_program.specs.Refusals.{total_magnitude}
 use Rattle.brick_sums.specs.Places.{width}
 use Rattle.sieve_laws.specs.Sieve.{Goes}
 use Rattle.layer_sieve.specs.Reaching.{IsFair, IsChoice}
-use Rattle.brick_dp.proofs.FillLaws.{length-within, at_brick, fair_menu, most_small}
+use Rattle.brick_dp.proofs.FillLaws.{length-within, at_brick, AtBrick, fair_menu, most_small, cells_small}
 use Rattle.brick_dp.proofs.ReadLaws.{Reading, reading_none, reading_more, reading_found, choice_there}
 use Rattle.brick_dp.proofs.BestLaws.{zero_at}
 use Rattle.brick_dp.proofs.reading.step_from.Goals as goal
@@ -44,7 +44,8 @@ first_choice-requires-clause-small c =
     let most : total_magnitude f.program ≤ 2 ^ 120 = subst (λ p. total_magnitude p ≤ 2 ^ 120) c.program.ensures c.n-bricks.ensures.magnitude in
     let m : ℕ = c.n-bricks.result - c.loop-done.done - 1 in
     let layer = c.requires.layers.each m c.get-next.result.now c.get-next.ensures in
-    most_small f.program (length f.program.bricks - m) c.get-next.result.now most layer.small
+    most_small f.program (length f.program.bricks - m) c.get-next.result.now most
+    (cells_small f c.args._point.now c.args.k (length f.program.bricks - m) (pos 0 -ℤ c.args.total) c.get-next.result.now layer)
 
 pub first_choice-requires-clause-from : goal.first_choice-requires-clause-from
 first_choice-requires-clause-from c =
@@ -58,13 +59,16 @@ unreachable-requires c =
     let f = c.args.fold.now in
     let program : IsProgram f.program = subst IsProgram c.program.ensures c.n-bricks.ensures.program in
     let bricks : c.n-bricks.result ≡ length f.program.bricks = c.n-bricks.ensures.bricks ∙ ap (λ (p : Program). length p.bricks) c.program.ensures in
-    let here = at_brick f c.args._point.now c.args.k (c.loop-done.done + 1 - 1) c.args.menus.now c.of-menu.result.now program c.requires.within
-    c.requires.menus (omega (arith, bricks, c.loop-done-test.true)) c.of-menu.ensures in
     let place : c.loop-done.done + 1 - 1 ≡ c.loop-done.done = omega arith in
+    let here : AtBrick f c.args._point.now c.args.k c.loop-done.done c.of-menu.result.now =
+    at_brick f c.args._point.now c.args.k c.loop-done.done c.args.menus.now c.of-menu.result.now program c.requires.within
+    c.requires.menus (omega (arith, bricks, c.loop-done-test.true)) (ap (slice_get c.args.menus.now) (sym place) ∙ c.of-menu.ensures) in
     let index : c.n-bricks.result - c.loop-done.done - 1 ≡ length f.program.bricks - (c.loop-done.done + 1) = omega (arith, bricks) in
-    choice_there f c.args._point.now c.args.k c.args.layers.now _ c.requires.layers c.loop-done.done c.loop-done.sum _ c.loop-done.moved.items c.loop-done.entries.items
-    here.brick here.vector c.of-menu.result.now c.get-next.result.now (omega (arith, bricks, c.loop-done-test.true)) c.loop-done.invariant
-    (ap (slice_get f.program.bricks) (sym place) ∙ here.brick_there) (ap (slice_get c.args._point.now) (sym place) ∙ here.vector_there) here.menu_is
+    let total : FitsSigned w128 c.args.total = search rules in
+    let r : Reading f c.args._point.now c.args.k c.args.layers.now c.args.total c.loop-done.done c.loop-done.sum (to_z w128 c.loop-done.cost-bits) c.loop-done.moved.items
+    c.loop-done.entries.items = simp to_z-of_z at c.loop-done.invariant in
+    choice_there f c.args._point.now c.args.k c.args.layers.now c.args.total c.requires.layers c.loop-done.done c.loop-done.sum (to_z w128 c.loop-done.cost-bits)
+    c.loop-done.moved.items c.loop-done.entries.items c.of-menu.result.now c.get-next.result.now (omega (arith, bricks, c.loop-done-test.true)) r here
     (ap (slice_get c.args.layers.now) (sym index) ∙ c.get-next.ensures)
     (λ i goes. c.in_default.ensures i (
     subst (λ (s : List Sum). Goes (vectors s) c.of-menu.result.now c.get-next.result.now c.loop-done.sum i (to_z w128 c.loop-done.cost-bits)) (sym c.requires.targets) goes
@@ -82,9 +86,10 @@ loop-done-preserved c =
     let f = c.args.fold.now in
     let program : IsProgram f.program = subst IsProgram c.program.ensures c.n-bricks.ensures.program in
     let bricks : c.n-bricks.result ≡ length f.program.bricks = c.n-bricks.ensures.bricks ∙ ap (λ (p : Program). length p.bricks) c.program.ensures in
-    let here = at_brick f c.args._point.now c.args.k (c.loop-done.done + 1 - 1) c.args.menus.now c.of-menu.result.now program c.requires.within
-    c.requires.menus (omega (arith, bricks, c.loop-done-test.true)) c.of-menu.ensures in
     let place : c.loop-done.done + 1 - 1 ≡ c.loop-done.done = omega arith in
+    let here : AtBrick f c.args._point.now c.args.k c.loop-done.done c.of-menu.result.now =
+    at_brick f c.args._point.now c.args.k c.loop-done.done c.args.menus.now c.of-menu.result.now program c.requires.within
+    c.requires.menus (omega (arith, bricks, c.loop-done-test.true)) (ap (slice_get c.args.menus.now) (sym place) ∙ c.of-menu.ensures) in
     let index : c.n-bricks.result - c.loop-done.done - 1 ≡ length f.program.bricks - (c.loop-done.done + 1) = omega (arith, bricks) in
     let rest : FitsSigned w128 c.in-Some.choice.rest = search rules in
     let total : FitsSigned w128 c.args.total = search rules in
@@ -95,9 +100,8 @@ loop-done-preserved c =
     c.requires.targets c.in-Some.ensures in
     simp to_z-of_z (
     reading_more f c.args._point.now c.args.k c.args.layers.now c.args.total c.requires.layers c.loop-done.done c.loop-done.sum (to_z w128 c.loop-done.cost-bits)
-    c.loop-done.moved.items c.note.new.bricks.items c.loop-done.entries.items c.note.new.entries.items here.brick here.vector c.of-menu.result.now
-    c.get-next.result.now c.in-Some.choice c.sum.result.now c.requires.rising (omega (arith, bricks, c.loop-done-test.true)) r
-    (ap (slice_get f.program.bricks) (sym place) ∙ here.brick_there) (ap (slice_get c.args._point.now) (sym place) ∙ here.vector_there) here.menu_is
+    c.loop-done.moved.items c.note.new.bricks.items c.loop-done.entries.items c.note.new.entries.items c.of-menu.result.now
+    c.get-next.result.now c.in-Some.choice c.sum.result.now c.requires.rising (omega (arith, bricks, c.loop-done-test.true)) r here
     (ap (slice_get c.args.layers.now) (sym index) ∙ c.get-next.ensures) chosen c.sum.ensures.vector c.in_ok-note.ensures.bricks c.in_ok-note.ensures.entries
     )
 

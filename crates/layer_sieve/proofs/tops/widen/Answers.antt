@@ -1,6 +1,10 @@
-use Rattle.std.proofs.Common.{None, arith, get_or, refl}
+use Rattle.std.proofs.Common.{None, arith, get_or, refl, rules, FitsSigned}
+use Rattle.std.specs.Prelude.{IfSome}
+use Rattle.std.specs.Int.{w128}
+use Rattle.std.proofs.lemmas.Int.{to_z-of_z}
 use Rattle.std.proofs.lemmas.Option.{slice_get-get_or}
 use Rattle.lattice_theory.specs.SignedSums.{vectors}
+use Rattle.layer_sieve.specs.Falls.{IsSpread}
 use Rattle.layer_sieve.proofs.WiderLaws.{wider_none, wider_more, wider_all}
 use Rattle.layer_sieve.proofs.tops.widen.Goals as goal
 
@@ -16,6 +20,9 @@ loop-h-preserved c =
 
 pub returns : goal.returns
 returns c =
-    wider_all (vectors c.args._targets.now) c.args.next.now c.args.layer.now c.args.tops.now c.loop-h.tops
+    let limit : FitsSigned w128 c.args.limit = search rules in
+    let spread : IfSome c.spread-spread.result (IsSpread c.args.next.now c.args.limit c.args.layer.now) =
+    simp to_z-of_z at c.spread-spread.ensures in
+    wider_all (vectors c.args._targets.now) c.args.limit c.args.next.now c.args.layer.now c.args.tops.now c.loop-h.tops
     c.spread-spread.result c.loop-h.h c.loop-h-test.false
-    c.requires.kept c.spread-spread.ensures c.requires.tops c.loop-h.invariant
+    c.requires.kept spread c.requires.tops c.loop-h.invariant

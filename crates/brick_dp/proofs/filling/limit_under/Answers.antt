@@ -1,0 +1,42 @@
+use Rattle.std.proofs.Common.{◌-ℤ◌, pos, refl, arith, rules, subst, Option, FitsSigned}
+use Rattle.std.specs.Int.{w128}
+use Rattle.std.proofs.lemmas.Int.{ints, to_z-of_z, fits_signed_from_abs}
+use Rattle.std.proofs.lemmas.Bool.{OnTrue_at, OnFalse_at}
+use Rattle.run_theory.specs.declared.Key.{Key}
+use Rattle.run_theory.specs.Keys.{IsNoWorse}
+use Rattle.brick_dp.specs.Needs.{IsNeeded}
+use Rattle.brick_dp.proofs.filling.limit_under.Goals as goal
+
+pub returns-then-any_within-clause-limit : goal.returns-then-any_within-clause-limit
+returns-then-any_within-clause-limit g c =
+    let need : FitsSigned w128 c.needed-need.result = search rules in
+    let floor : FitsSigned w128 c.args.floor = search rules in
+    let needed : IsNeeded c.args.k (g.B.Bound.last c.now.new.self) c.needed-need.result =
+    subst (λ (b : Option Key). IsNeeded c.args.k b c.needed-need.result) c.now.ensures.answer c.needed-need.ensures in
+    let less : FitsSigned w128 (pos 0 -ℤ c.needed-need.result) = fits_signed_from_abs w128 _
+    (omega (arith, ints, needed.low, needed.high)) in
+    let limit : FitsSigned w128 ((pos 0 -ℤ c.needed-need.result) -ℤ c.args.floor) =
+    fits_signed_from_abs w128 _ (omega (arith, ints, needed.low, needed.high, c.requires)) in
+    let told = simp to_z-of_z at c.any_within.ensures.within in
+    simp to_z-of_z (c.needed-need.result, needed, refl, OnTrue_at c.if-any_within.true told)
+
+pub returns-else-any_within-clause-limit : goal.returns-else-any_within-clause-limit
+returns-else-any_within-clause-limit g c =
+    let need : FitsSigned w128 c.needed-need.result = search rules in
+    let floor : FitsSigned w128 c.args.floor = search rules in
+    let needed : IsNeeded c.args.k (g.B.Bound.last c.now.new.self) c.needed-need.result =
+    subst (λ (b : Option Key). IsNeeded c.args.k b c.needed-need.result) c.now.ensures.answer c.needed-need.ensures in
+    let less : FitsSigned w128 (pos 0 -ℤ c.needed-need.result) = fits_signed_from_abs w128 _
+    (omega (arith, ints, needed.low, needed.high)) in
+    let limit : FitsSigned w128 ((pos 0 -ℤ c.needed-need.result) -ℤ c.args.floor) =
+    fits_signed_from_abs w128 _ (omega (arith, ints, needed.low, needed.high, c.requires)) in
+    let told = simp to_z-of_z at c.any_within.ensures.above in
+    (c.needed-need.result, needed, OnFalse_at c.if-any_within.false told)
+
+pub returns-then-any_within-clause-better : goal.returns-then-any_within-clause-better
+returns-then-any_within-clause-better g c =
+    subst (λ (b : Option Key). IsNoWorse (g.B.Bound.last c.args.bound.now) b) c.now.ensures.answer c.now.ensures.better
+
+pub returns-else-any_within-clause-better : goal.returns-else-any_within-clause-better
+returns-else-any_within-clause-better g c =
+    subst (λ (b : Option Key). IsNoWorse (g.B.Bound.last c.args.bound.now) b) c.now.ensures.answer c.now.ensures.better
