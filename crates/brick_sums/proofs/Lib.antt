@@ -1,5 +1,6 @@
 pub mod RisingLaws
 pub mod SumLaws
+mod IndexLaws
 mod LevelLaws
 mod FoundLaws
 mod ListedLaws

@@ -1,14 +1,8 @@
--- The place of a vector in a rising list, the levels and the width of listed sums.
-use Rattle.std.specs.Prelude.{◌≡◌, ℕ, ◌≤◌, List, [], ◌∷◌, length, map, slice_get, Some, All, IsTrue}
-use Rattle.std.specs.List.{AllWithin}
-use Rattle.lattice_theory.specs.Vectors.{Vector, lex_less, is_rising, zeros}
+-- Listed sums: their places, their levels and their width.
+use Rattle.std.specs.Prelude.{◌≡◌, ℕ, ℤ, ◌≤◌, List, [], ◌∷◌, length, map, slice_get, Some, All, Contains, IsTrue, Vec}
+use Rattle.std.specs.declared.alloc.Global.{Global}
+use Rattle.lattice_theory.specs.Vectors.{Vector, is_rising, zeros}
 use Rattle.lattice_theory.specs.SignedSums.{Sum, vectors}
-
--- v is not among the vectors, and would go to place i
-pub record IsGapFor (us : List Vector) (v : Vector) (i : ℕ) : Type 0 where
-  pub within : i ≤ length us
-  pub before : AllWithin (λ u. IsTrue (lex_less u v)) us 0 i
-  pub behind : AllWithin (λ u. IsTrue (lex_less v u)) us i (length us)
 
 abbrev pub levels : List Sum → List ℕ
 levels sums = map (λ s. s.level) sums
@@ -24,3 +18,12 @@ pub record AreListed (sums : List Sum) (zero : ℕ) : Type 0 where
   pub widths : All (λ v. length v ≡ width sums) (vectors sums)
   pub few : length sums ≤ 20000
   pub zero_there : slice_get (vectors sums) zero ≡ Some (zeros (width sums))
+
+-- a vector, as it is kept, with its place
+abbrev pub Entry : Type 0
+Entry = Vec ℤ Global × ℕ
+
+-- each entry's vector stands at its place, and each listed vector has an entry
+pub record IsIndex (sums : List Sum) (entries : List Entry) : Type 0 where
+  pub sound : All (λ (e : Entry). slice_get (vectors sums) e.1 ≡ Some (e.0).items) entries
+  pub complete : All (λ (v : Vector). (e : Entry) × Contains entries e × ((e.0).items ≡ v)) (vectors sums)

@@ -37,7 +37,7 @@ pub fn sums(alloc: Global, gens: &Matrix, g: u64, most: u32) -> Result<Sums, Sum
 {
     let members = all_members(alloc, gens, g, most)?;
     let zero = place_of_zero(&members).unwrap();
-    Ok(Sums::new(members, zero))
+    Ok(Sums::new(alloc, members, zero)?)
 }
 
 /// The sums that were found.

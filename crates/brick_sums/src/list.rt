@@ -1,18 +1,22 @@
 //! The list of all sums, and its readers.
 
-ghost use Rattle.std.specs.Prelude.{◌≡◌, ◌<◌, Some, List, length, slice_get, MatchOption, Contains};
-ghost use Rattle.lattice_theory.specs.Vectors.{zeros};
+ghost use Rattle.std.specs.Prelude.{◌≡◌, ◌<◌, ◌≤◌, Some, List, length, slice_get, MatchOption, Contains, IsTrue, IfOk};
+ghost use Rattle.lattice_theory.specs.Vectors.{zeros, is_rising};
 ghost use Rattle.lattice_theory.specs.SignedSums.{Sum, vectors};
-ghost use Rattle.brick_sums.specs.Places.{AreListed, levels, width};
+ghost use Rattle.brick_sums.specs.Places.{AreListed, IsIndex, levels, width};
 
-use crate::member::{Member, place_of};
+use crate::member::Member;
+use std::alloc::{AllocError, Global};
+use std::collections::HashMap;
 use std::marker::Model;
 
 /// Sums in lexicographic order, all of one width, zero among them, each with its level: the least number of
-/// generators whose sum it is. Places count from 0. No call takes memory.
+/// generators whose sum it is. Places count from 0. No reader takes memory.
 #[derive(Debug, Drop)]
 pub struct Sums {
     members: Vec<Member>,
+    /// The place of each of their vectors.
+    places: HashMap<Vec<i64>, u32>,
     zero: u32,
 }
 
@@ -21,19 +25,21 @@ impl Model for Sums {
 
     ghost view = { λ s. s.members.items };
 
-    ghost invariant = { λ s. AreListed s.members.items s.zero };
+    ghost invariant = { λ s. AreListed s.members.items s.zero × IsIndex s.members.items s.places.entries };
 }
 
 impl Sums {
     /// The listed sums, with the place of zero.
-    pub(crate) fn new(members: Vec<Member>, zero: usize) -> Sums
+    pub(crate) fn new(alloc: Global, members: Vec<Member>, zero: usize) -> Result<Sums, AllocError>
         requires { AreListed members.items zero }
-        ensures { result ≡ members.items }
+        ensures { IfOk result (λ sums. sums ≡ members.items) }
     {
-        Sums {
+        let places = index(alloc, &members)?;
+        Ok(Sums {
             members,
+            places,
             zero: zero as u32,
-        }
+        })
     }
 
     /// How many sums there are.
@@ -64,10 +70,7 @@ impl Sums {
     pub fn find(&self, v: &[i64]) -> Option<u32>
         ensures { MatchOption result (¬ Contains (vectors self.now) v.now) (λ i. slice_get (vectors self.now) i ≡ Some v.now) }
     {
-        match place_of(&self.members, v) {
-            Ok(at) => Some(at as u32),
-            Err(_) => None,
-        }
+        self.places.get(v).copied()
     }
 
     /// The place of the zero vector.
@@ -76,4 +79,17 @@ impl Sums {
     {
         self.zero
     }
+}
+
+/// The place of each vector.
+fn index(alloc: Global, members: &[Member]) -> Result<HashMap<Vec<i64>, u32>, AllocError>
+    requires rising { IsTrue (is_rising (vectors members.now)) }
+    requires few { length members.now ≤ 20000 }
+    ensures { IfOk result (λ places. IsIndex members.now places.entries) }
+{
+    let mut places = HashMap::with_capacity(alloc, members.len())?;
+    for (at, member) in members.iter().enumerate() {
+        places.insert(Vec::from_slice(alloc, member.vector())?, at as u32)?;
+    }
+    Ok(places)
 }

@@ -1,13 +1,10 @@
 //! A listed sum.
 
-ghost use Rattle.std.specs.Prelude.{◌≡◌, Some, IsTrue, IfOk, IfErr, slice_get, position};
-ghost use Rattle.lattice_theory.specs.Vectors.{is_rising, lex_cmp};
+ghost use Rattle.std.specs.Prelude.{◌≡◌, position};
 ghost use Rattle.lattice_theory.specs.Vectors as vector;
-ghost use Rattle.lattice_theory.specs.SignedSums.{Sum, vectors};
-ghost use Rattle.brick_sums.specs.Places.{IsGapFor};
+ghost use Rattle.lattice_theory.specs.SignedSums.{Sum};
 
 use int_vectors::is_zero;
-use std::cmp::Ordering;
 use std::marker::Model;
 
 /// A sum with its level, the least number of generators whose sum it is.
@@ -44,19 +41,6 @@ impl Member {
     {
         self.vector.as_slice()
     }
-}
-
-/// The place of the vector among the rising members, or the place where it would go.
-pub fn place_of(members: &[Member], vector: &[i64]) -> Result<usize, usize>
-    requires { IsTrue (is_rising (vectors members.now)) }
-    ensures found { IfOk result (λ i. slice_get (vectors members.now) i ≡ Some vector.now) }
-    ensures gap { IfErr result (IsGapFor (vectors members.now) vector.now) }
-{
-    members.binary_search_by(
-        |member: &Member| -> Ordering
-            ensures { result ≡ lex_cmp member.now.vector vector.entry.now }
-        { member.vector().cmp(vector) },
-    )
 }
 
 /// The first place with a zero vector.

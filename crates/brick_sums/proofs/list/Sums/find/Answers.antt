@@ -1,6 +1,8 @@
-use Rattle.brick_sums.proofs.RisingLaws.{gap-lacks}
+use Rattle.std.proofs.Common.{◌∙◌}
+use Rattle.brick_sums.proofs.IndexLaws.{looked_up}
 use Rattle.brick_sums.proofs.list.Sums.find.Goals as goal
 
--- a vector that has a gap is not listed
-pub returns-in-Err : goal.returns-in-Err
-returns-in-Err c found = gap-lacks _ _ _ (rw (c.deref.ensures.value, c.self.view_is) at c.in-Err.ensures.gap) found
+-- the place that the look-up finds
+pub returns : goal.returns
+returns c =
+    rw c.self.view_is at (looked_up _ _ c.self.invariant.1 c.args.v.now c.copied.result (c.copied.ensures ∙ c.get.ensures.value))

@@ -9,4 +9,4 @@ use Rattle.brick_sums.proofs.list.Sums.get.Goals as goal
 pub returns-clause-width : goal.returns-clause-width
 returns-clause-width c =
     let read : slice_get (vectors c.args.self.now) c.args.i ≡ Some c.vector.result.now = grind (arith, common_steps, gets) in
-    slice_get-All (λ v. length v ≡ width c.args.self.now) _ _ _ read (rw c.self.view_is at c.self.invariant.widths)
+    slice_get-All (λ v. length v ≡ width c.args.self.now) _ _ _ read (rw c.self.view_is at c.self.invariant.0.widths)
