@@ -1,12 +1,12 @@
 #!/usr/bin/env python3
 """Compares `nfold solve` by 1 to 16 workers, byte for byte, on small programs made at random.
 
-    python3 trials/workers.py [--program FILE] [--count N] [--seed S] [--repeat R]
+    python3 trials/workers.py [--program FILE] [--count N] [--seed S] [--repeat R] [--widest W]
 
 Each program is solved without the option and then by each number of workers, as often as --repeat says, half of them
 with a trace. The status, both texts and the stored certificate have to be the same every time. The programs have up to
-44 step lengths, so that workers share them in many ways. What differs is printed, and the status is 1 where anything
-does. The gate does not run it.
+44 step lengths, so that workers share them in many ways; with bounds at most W apart they have fewer, and a run takes a
+few milliseconds. What differs is printed, and the status is 1 where anything does. The gate does not run it.
 """
 import argparse
 import os
@@ -21,10 +21,10 @@ import solve as small
 WIDTHS = [1, 4, 30, 1000, 10**6, 2**44]
 
 
-def random_program(chance):
-    """A program with bounds up to a random width and quadratic costs, around a planted point."""
+def random_program(chance, widest):
+    """A program with bounds up to a random width, of `widest` at most, and quadratic costs, around a planted point."""
     t, r, s = chance.randint(1, 3), chance.randint(0, 2), chance.randint(0, 1)
-    n, width = chance.randint(1, 6), chance.choice(WIDTHS)
+    n, width = chance.randint(1, 6), chance.choice([width for width in WIDTHS if width <= widest])
     entries = lambda: [chance.choice([-1, 0, 1, 1, 1, 2]) for _ in range(t)]
     link, brick = [entries() for _ in range(r)], [entries() for _ in range(s)]
     lower = [[-chance.randint(0, width) for _ in range(t)] for _ in range(n)]
@@ -56,12 +56,13 @@ def main():
     parser.add_argument("--count", type=int, default=1000)
     parser.add_argument("--seed", type=int, default=1)
     parser.add_argument("--repeat", type=int, default=1)
+    parser.add_argument("--widest", type=int, default=WIDTHS[-1])
     options = parser.parse_args()
     binary, chance, bad, runs, steps = os.path.abspath(options.program), random.Random(options.seed), 0, 0, 0
     statuses, begin = {}, time.monotonic()
     with tempfile.TemporaryDirectory() as folder:
         for number in range(options.count):
-            program = random_program(chance)
+            program = random_program(chance, options.widest)
             small.write(folder, program)
             words = ["solve", "t", "--rel"] + ["--trace"] * (number % 2)
             wanted = answer(binary, folder, words)
