@@ -1,7 +1,7 @@
 -- Where moves lead, row by row.
 use Rattle.std.proofs.Common.{◌≡◌, ℕ, ◌+◌, ◌<◌, ◌≤◌, List, [], ◌∷◌, ◌++◌, length, zero, suc, refl, ap, arith, sym, ◌∙◌}
-use Rattle.std.proofs.Common.{Option, Some, slice_get, subst, ◌⊎◌, inl, inr, All, get_or}
-use Rattle.std.proofs.lemmas.List.{length-append, length-map}
+use Rattle.std.proofs.Common.{Option, Some, None, slice_get, subst, ◌⊎◌, inl, inr, All, get_or}
+use Rattle.std.proofs.lemmas.List.{length-append}
 use Rattle.std.proofs.lemmas.Option.{slice_get_within, slice_get-get_or}
 use Rattle.std.proofs.lemmas.Bool.{cases_lt}
 use Rattle.std.specs.Prelude.{Vec}
@@ -11,7 +11,7 @@ use Rattle.lattice_theory.specs.SignedSums.{Sum, vectors}
 use Rattle.sieve_laws.specs.Sieve.{IsTarget}
 use Rattle.brick_sums.specs.Places.{width}
 use Rattle.sieve_laws.proofs.Cells.{at_same}
-use Rattle.layer_sieve.specs.Targets.{IsTargetRow, AreTargetsOf}
+use Rattle.layer_sieve.specs.Targets.{IsTargetRow, IsWord, AreTargetsOf}
 
 module _ {A : Type 0} where
   some_is : (a b : A) → Some a ≡ Some b → a ≡ b
@@ -87,15 +87,28 @@ rows_more zs rows more n row is leads so_far = record {
         subst (λ (r : Row). IsTargetRow zs h r.items) same
         (subst (λ g. IsTargetRow zs g row.items) (sym (place ∙ so_far.size)) leads)
 
-pub rows_all : (fs : List Sum) (rows : List Row) (n : ℕ) → n ≡ length fs →
-    All (λ v. length v ≡ width fs) (vectors fs) → RowsUpTo (vectors fs) rows n → AreTargetsOf fs rows
-rows_all fs rows n all widths so_far = record {
-  targets = record {
-    size = so_far.size ∙ all ∙ sym (length-map {A = Sum} {B = Vector} fs (λ s. s.vector));
-    each = so_far.each;
-  };
+pub rows_all : (fs : List Sum) (rows : List Row) (n : ℕ) → (n ≡ length fs) ⊎ (width fs ≤ 32) →
+    All (All IsWord) (vectors fs) → All (λ v. length v ≡ width fs) (vectors fs) → RowsUpTo (vectors fs) rows n →
+    AreTargetsOf fs rows
+rows_all fs rows n kept words widths so_far = record {
+  targets = so_far.each;
+  words = words;
   widths = widths;
+  all = elim kept [ inl same ↦ inl (so_far.size ∙ same) | inr narrow ↦ inr narrow ];
 }
+
+-- a move without a row is one of narrow sums
+pub no_row : (fs : List Sum) (rows : List Row) (h : ℕ) → AreTargetsOf fs rows → h < length fs → slice_get rows h ≡ None →
+    width fs ≤ 32
+no_row fs rows h are low none = elim are.all [
+  | inl same ↦ absurd (none_within rows h (omega (arith, same, low)) none)
+  | inr narrow ↦ narrow
+]
+  where
+    none_within : (rs : List Row) (i : ℕ) → i < length rs → slice_get rs i ≡ None → ⊥
+    none_within [] i within e = omega (arith, within)
+    none_within (r ∷ rs) zero within e = absurd (cc)
+    none_within (r ∷ rs) (suc i) within e = none_within rs i (omega (arith, within)) e
 
 -- ---- what holds of each vector, one after the other
 

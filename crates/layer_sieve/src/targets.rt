@@ -1,6 +1,6 @@
 //! Where each sum, as a move, leads from each sum.
 
-ghost use Rattle.std.specs.Prelude.{◌≡◌, ◌<◌, ℤ, length, All, IfOk};
+ghost use Rattle.std.specs.Prelude.{◌≡◌, ◌<◌, ◌≤◌, ◌⊎◌, ℤ, length, All, IfOk};
 ghost use Rattle.std.specs.Bool.{OnTrue, OnFalse};
 ghost use Rattle.lattice_theory.specs.Vectors.{add};
 ghost use Rattle.lattice_theory.specs.SignedSums.{vectors};
@@ -12,8 +12,15 @@ use brick_sums::Sums;
 use std::alloc::{AllocError, Global};
 use std::marker::Model;
 
+/// How many sums there may be for the places of all pairs to be kept: past this they would take over 200 MB.
+const MOST_KEPT: u32 = 5000;
+
+/// How many entries a sum has whose places are sought when they are asked for.
+const WIDEST: usize = 32;
+
 /// A list of sums, with the places to which they lead as moves: from the sum `w` the move `h` leads to the place of
-/// `w + h`, where that is a sum. Places count from 0.
+/// `w + h`, where that is a sum. Places count from 0. Where there are more than 5,000 sums, of at most 32 entries, a
+/// place is sought when it is asked for; else those of all pairs are kept.
 #[derive(Debug, Drop)]
 pub struct Targets<'a> {
     sums: &'a Sums,
@@ -39,8 +46,9 @@ impl<'a> Targets<'a> {
     {
         all_words(sums);
         one_width(sums);
-        let mut rows = Vec::with_capacity(alloc, sums.len() as usize)?;
-        for h in 0..sums.len() {
+        let kept = moves_kept(sums);
+        let mut rows = Vec::with_capacity(alloc, kept as usize)?;
+        for h in 0..kept {
             rows.push(target_row(alloc, sums, h)?)?;
         }
         Ok(Targets { sums, rows })
@@ -60,8 +68,35 @@ impl<'a> Targets<'a> {
         requires from { from < length self.now }
         ensures { IsTarget (vectors self.now) h from result }
     {
-        self.rows[h as usize][from as usize]
+        match self.rows.get(h as usize) {
+            Some(row) => row[from as usize],
+            None => sought(self.sums, from, h),
+        }
     }
+}
+
+/// For how many moves the places are kept: for all or for none.
+fn moves_kept(sums: &Sums) -> u32
+    ensures some { result ≤ length sums.now }
+    ensures all { (result ≡ length sums.now) ⊎ (width sums.now ≤ 32) }
+{
+    if sums.len() <= MOST_KEPT || sums.get(sums.zero()).len() > WIDEST {
+        sums.len()
+    } else {
+        0
+    }
+}
+
+/// The place of the sum of two listed sums.
+fn sought(sums: &Sums, from: u32, h: u32) -> Option<u32>
+    requires from { from < length sums.now }
+    requires listed { h < length sums.now }
+    requires words { All (All IsWord) (vectors sums.now) }
+    requires narrow { width sums.now ≤ 32 }
+    ensures { IsTarget (vectors sums.now) h from result }
+{
+    let mut scratch = [0i64; WIDEST];
+    target(sums, from, h, &mut scratch[..sums.get(from).len()])
 }
 
 /// The place to which the move at place `h` leads from each sum.
