@@ -14,7 +14,7 @@ use Rattle.sieve_laws.specs.declared.PricedMove.{PricedMove}
 use Rattle.sieve_laws.specs.Sieve.{Menu, after}
 use Rattle.sieve_laws.proofs.Cells.{slice_get-set_same, slice_get-set_other}
 use Rattle.brick_dp.specs.Changes.{IsChange}
-use Rattle.brick_dp.specs.Menus.{IsBrickMenu, AreMenus, menus_of}
+use Rattle.brick_dp.specs.Menus.{IsBrickMenu, AreMenus}
 use Rattle.brick_dp.proofs.ChangeLaws.{at_same, slice_get-push}
 
 module _ {A : Type 0} where
@@ -124,59 +124,40 @@ module _ (f : FoldValue) (k : ℕ) (b : Brick) (v : Vector) where
 
 -- ---- the menus of all bricks
 
-abbrev pub Kept : Type 0
-Kept = Vec PricedMove Global
-
 -- the menus of the first n bricks
-pub record MenusUpTo (f : FoldValue) (x : Bricks) (k : ℕ) (menus : List Kept) (n : ℕ) : Type 0 where
+pub record MenusUpTo (f : FoldValue) (x : Bricks) (k : ℕ) (menus : List Menu) (n : ℕ) : Type 0 where
   pub size : length menus ≡ n
-  pub each : (i : ℕ) (b : Brick) (v : Vector) (menu : Kept) → slice_get f.program.bricks i ≡ Some b → slice_get x i ≡ Some v → slice_get menus i ≡ Some menu →
-      IsBrickMenu f k b v menu.items
+  pub each : (i : ℕ) (b : Brick) (v : Vector) (menu : Menu) → slice_get f.program.bricks i ≡ Some b → slice_get x i ≡ Some v → slice_get menus i ≡ Some menu →
+      IsBrickMenu f k b v menu
 
-pub menus_none : (f : FoldValue) (x : Bricks) (k : ℕ) (menus : List Kept) → menus ≡ [] → MenusUpTo f x k menus 0
+pub menus_none : (f : FoldValue) (x : Bricks) (k : ℕ) (menus : List Menu) → menus ≡ [] → MenusUpTo f x k menus 0
 menus_none f x k menus is = record {
   size = ap length is;
   each = λ i b v menu brick at there. absurd (omega (arith, slice_get_within menus i menu there, ap length is));
 }
 
-pub menus_more : (f : FoldValue) (x : Bricks) (k : ℕ) (menus more : List Kept) (n : ℕ) (v : Vector) (menu : Kept) → slice_get x n ≡ Some v →
-    ((b : Brick) → slice_get f.program.bricks n ≡ Some b → IsBrickMenu f k b v menu.items) → more ≡ menus ++ menu ∷ [] →
+pub menus_more : (f : FoldValue) (x : Bricks) (k : ℕ) (menus more : List Menu) (n : ℕ) (v : Vector) (menu : Menu) → slice_get x n ≡ Some v →
+    ((b : Brick) → slice_get f.program.bricks n ≡ Some b → IsBrickMenu f k b v menu) → more ≡ menus ++ menu ∷ [] →
     MenusUpTo f x k menus n → MenusUpTo f x k more (n + 1)
 menus_more f x k menus more n v menu at is_menu is so_far = record {
   size = ap length is ∙ length-append menus (menu ∷ []) ∙ ap (λ m. m + 1) so_far.size;
   each = λ i b u other brick here there. by i b u other brick here (slice_get-push menus menu other i (ap (λ ms. slice_get ms i) (sym is) ∙ there));
 }
   where
-    by : (i : ℕ) (b : Brick) (u : Vector) (other : Kept) → slice_get f.program.bricks i ≡ Some b → slice_get x i ≡ Some u →
-        (slice_get menus i ≡ Some other) ⊎ ((i ≡ length menus) × (menu ≡ other)) → IsBrickMenu f k b u other.items
+    by : (i : ℕ) (b : Brick) (u : Vector) (other : Menu) → slice_get f.program.bricks i ≡ Some b → slice_get x i ≡ Some u →
+        (slice_get menus i ≡ Some other) ⊎ ((i ≡ length menus) × (menu ≡ other)) → IsBrickMenu f k b u other
     by i b u other brick here (inl before) = so_far.each i b u other brick here before
     by i b u other brick here (inr last) =
         let place : i ≡ n = last.0 ∙ so_far.size in
         let vectors_same : v ≡ u = at_same (slice_get x n) v u at (ap (slice_get x) (sym place) ∙ here) in
-        subst (λ (m : Kept). IsBrickMenu f k b u m.items) last.1 (
-        subst (λ w. IsBrickMenu f k b w menu.items) vectors_same (is_menu b (ap (slice_get f.program.bricks) (sym place) ∙ brick))
+        subst (λ (m : Menu). IsBrickMenu f k b u m) last.1 (
+        subst (λ w. IsBrickMenu f k b w menu) vectors_same (is_menu b (ap (slice_get f.program.bricks) (sym place) ∙ brick))
         )
 
--- a menu in its list
-pub menu_at : (menus : List Kept) (i : ℕ) (menu : Kept) → slice_get menus i ≡ Some menu → slice_get (menus_of menus) i ≡ Some menu.items
-menu_at [] i menu there = absurd (cc)
-menu_at (m ∷ menus) zero menu there = ap (λ (m : Kept). Some m.items) (at_same (Some m) m menu refl there)
-menu_at (m ∷ menus) (suc i) menu there = menu_at menus i menu there
-
-kept_at : (menus : List Kept) (i : ℕ) (menu : Menu) → slice_get (menus_of menus) i ≡ Some menu → (kept : Kept) × (slice_get menus i ≡ Some kept) × (kept.items ≡ menu)
-kept_at [] i menu there = absurd (cc)
-kept_at (m ∷ menus) zero menu there = (m, refl, at_same (Some m.items) m.items menu refl there)
-kept_at (m ∷ menus) (suc i) menu there = kept_at menus i menu there
-
-pub length-menus_of : (menus : List Kept) → length (menus_of menus) ≡ length menus
-length-menus_of menus = length-map {A = Kept} {B = Menu} menus (λ (m : Kept). m.items)
-
-pub menus_all : (f : FoldValue) (x : Bricks) (k : ℕ) (menus : List Kept) (n : ℕ) → n ≡ length f.program.bricks → MenusUpTo f x k menus n → AreMenus f x k (menus_of menus)
+pub menus_all : (f : FoldValue) (x : Bricks) (k : ℕ) (menus : List Menu) (n : ℕ) → n ≡ length f.program.bricks → MenusUpTo f x k menus n → AreMenus f x k menus
 menus_all f x k menus n all so_far = record {
-  size = length-menus_of menus ∙ so_far.size ∙ all;
-  each = λ i b v menu brick at there.
-      let kept = kept_at menus i menu there in
-      subst (λ m. IsBrickMenu f k b v m) kept.2 (so_far.each i b v kept.0 brick at kept.1);
+  size = so_far.size ∙ all;
+  each = so_far.each;
 }
 
 -- a menu has at most as many moves as there are sums
@@ -204,22 +185,22 @@ menu_short f k b v menu is = by (length menu) refl
 -- ---- from the menus at one point to those at another
 
 -- the first n menus are those at the second point, the others at the first
-pub record AreFollowing (f : FoldValue) (x y : Bricks) (k : ℕ) (menus : List Kept) (n : ℕ) : Type 0 where
+pub record AreFollowing (f : FoldValue) (x y : Bricks) (k : ℕ) (menus : List Menu) (n : ℕ) : Type 0 where
   pub size : length menus ≡ length f.program.bricks
-  pub done : (i : ℕ) (b : Brick) (v : Vector) (menu : Kept) → i < n → slice_get f.program.bricks i ≡ Some b → slice_get y i ≡ Some v →
-      slice_get menus i ≡ Some menu → IsBrickMenu f k b v menu.items
-  pub rest : (i : ℕ) (b : Brick) (v : Vector) (menu : Kept) → n ≤ i → slice_get f.program.bricks i ≡ Some b → slice_get x i ≡ Some v →
-      slice_get menus i ≡ Some menu → IsBrickMenu f k b v menu.items
+  pub done : (i : ℕ) (b : Brick) (v : Vector) (menu : Menu) → i < n → slice_get f.program.bricks i ≡ Some b → slice_get y i ≡ Some v →
+      slice_get menus i ≡ Some menu → IsBrickMenu f k b v menu
+  pub rest : (i : ℕ) (b : Brick) (v : Vector) (menu : Menu) → n ≤ i → slice_get f.program.bricks i ≡ Some b → slice_get x i ≡ Some v →
+      slice_get menus i ≡ Some menu → IsBrickMenu f k b v menu
 
-pub following_none : (f : FoldValue) (x y : Bricks) (k : ℕ) (menus : List Kept) → AreMenus f x k (menus_of menus) → AreFollowing f x y k menus 0
+pub following_none : (f : FoldValue) (x y : Bricks) (k : ℕ) (menus : List Menu) → AreMenus f x k menus → AreFollowing f x y k menus 0
 following_none f x y k menus are = record {
-  size = sym (length-menus_of menus) ∙ are.size;
+  size = are.size;
   done = λ i b v menu low. absurd (omega (arith, low));
-  rest = λ i b v menu low brick at there. are.each i b v menu.items brick at (menu_at menus i menu there);
+  rest = λ i b v menu low. are.each i b v menu;
 }
 
 -- a brick whose vector is the same keeps its menu
-pub following_same : (f : FoldValue) (x y : Bricks) (k : ℕ) (menus : List Kept) (n : ℕ) (v : Vector) → slice_get x n ≡ Some v → slice_get y n ≡ Some v →
+pub following_same : (f : FoldValue) (x y : Bricks) (k : ℕ) (menus : List Menu) (n : ℕ) (v : Vector) → slice_get x n ≡ Some v → slice_get y n ≡ Some v →
     AreFollowing f x y k menus n → AreFollowing f x y k menus (n + 1)
 following_same f x y k menus n v here also so_far = record {
   size = so_far.size;
@@ -227,8 +208,8 @@ following_same f x y k menus n v here also so_far = record {
   rest = λ i b u menu low. so_far.rest i b u menu (omega (arith, low));
 }
   where
-    by : (i : ℕ) (b : Brick) (u : Vector) (menu : Kept) → i < n + 1 → slice_get f.program.bricks i ≡ Some b → slice_get y i ≡ Some u →
-        slice_get menus i ≡ Some menu → (i < n) ⊎ (n ≤ i) → IsBrickMenu f k b u menu.items
+    by : (i : ℕ) (b : Brick) (u : Vector) (menu : Menu) → i < n + 1 → slice_get f.program.bricks i ≡ Some b → slice_get y i ≡ Some u →
+        slice_get menus i ≡ Some menu → (i < n) ⊎ (n ≤ i) → IsBrickMenu f k b u menu
     by i b u menu low brick at there (inl before) = so_far.done i b u menu before brick at there
     by i b u menu low brick at there (inr high) =
         let last : i ≡ n = omega (arith, low, high) in
@@ -236,8 +217,8 @@ following_same f x y k menus n v here also so_far = record {
         so_far.rest i b u menu high brick (ap (slice_get x) last ∙ here ∙ ap Some same) there
 
 -- another brick gets a new one
-pub following_new : (f : FoldValue) (x y : Bricks) (k : ℕ) (menus more : List Kept) (n : ℕ) (v : Vector) (menu : Kept) → slice_get y n ≡ Some v →
-    ((b : Brick) → slice_get f.program.bricks n ≡ Some b → IsBrickMenu f k b v menu.items) → more ≡ set menus n menu → n < length menus →
+pub following_new : (f : FoldValue) (x y : Bricks) (k : ℕ) (menus more : List Menu) (n : ℕ) (v : Vector) (menu : Menu) → slice_get y n ≡ Some v →
+    ((b : Brick) → slice_get f.program.bricks n ≡ Some b → IsBrickMenu f k b v menu) → more ≡ set menus n menu → n < length menus →
     AreFollowing f x y k menus n → AreFollowing f x y k more (n + 1)
 following_new f x y k menus more n v menu here is_menu is low so_far = record {
   size = ap length is ∙ length-set menus n menu ∙ so_far.size;
@@ -245,29 +226,28 @@ following_new f x y k menus more n v menu here is_menu is low so_far = record {
   rest = λ i b u other under brick at there. so_far.rest i b u other (omega (arith, under)) brick at (others i other (λ e. omega (arith, under, e)) there);
 }
   where
-    others : (i : ℕ) (other : Kept) → i ≢ n → slice_get more i ≡ Some other → slice_get menus i ≡ Some other
+    others : (i : ℕ) (other : Menu) → i ≢ n → slice_get more i ≡ Some other → slice_get menus i ≡ Some other
     others i other apart there = sym (slice_get-set_other menus n i menu apart) ∙ ap (λ ms. slice_get ms i) (sym is) ∙ there
 
-    by : (i : ℕ) (b : Brick) (u : Vector) (other : Kept) → i < n + 1 → slice_get f.program.bricks i ≡ Some b → slice_get y i ≡ Some u →
-        slice_get more i ≡ Some other → (i ≡ n) ⊎ ((i < n) ⊎ (n < i)) → IsBrickMenu f k b u other.items
+    by : (i : ℕ) (b : Brick) (u : Vector) (other : Menu) → i < n + 1 → slice_get f.program.bricks i ≡ Some b → slice_get y i ≡ Some u →
+        slice_get more i ≡ Some other → (i ≡ n) ⊎ ((i < n) ⊎ (n < i)) → IsBrickMenu f k b u other
     by i b u other under brick at there (inl same) =
         let vectors_same : v ≡ u = at_same (slice_get y n) v u here (ap (slice_get y) (sym same) ∙ at) in
         let menus_same : menu ≡ other = at_same (slice_get more n) menu other (ap (λ ms. slice_get ms n) is ∙ slice_get-set_same menus n menu low) (ap (slice_get more) (sym same) ∙ there) in
-        subst (λ (m : Kept). IsBrickMenu f k b u m.items) menus_same (
-        subst (λ w. IsBrickMenu f k b w menu.items) vectors_same (is_menu b (ap (slice_get f.program.bricks) (sym same) ∙ brick))
+        subst (λ (m : Menu). IsBrickMenu f k b u m) menus_same (
+        subst (λ w. IsBrickMenu f k b w menu) vectors_same (is_menu b (ap (slice_get f.program.bricks) (sym same) ∙ brick))
         )
     by i b u other under brick at there (inr (inl before)) =
         so_far.done i b u other before brick at (others i other (λ e. omega (arith, before, e)) there)
     by i b u other under brick at there (inr (inr behind)) = absurd (omega (arith, under, behind))
 
-pub following_all : (f : FoldValue) (x y : Bricks) (k : ℕ) (menus : List Kept) (n : ℕ) → length f.program.bricks ≤ n → AreFollowing f x y k menus n →
-    AreMenus f y k (menus_of menus)
+pub following_all : (f : FoldValue) (x y : Bricks) (k : ℕ) (menus : List Menu) (n : ℕ) → length f.program.bricks ≤ n → AreFollowing f x y k menus n →
+    AreMenus f y k menus
 following_all f x y k menus n all so_far = record {
-  size = length-menus_of menus ∙ so_far.size;
+  size = so_far.size;
   each = λ i b v menu brick at there.
-      let kept = kept_at menus i menu there in
       let low = slice_get_within f.program.bricks i b brick in
-      subst (λ m. IsBrickMenu f k b v m) kept.2 (so_far.done i b v kept.0 (omega (arith, low, all)) brick at kept.1);
+      so_far.done i b v menu (omega (arith, low, all)) brick at there;
 }
 
 pub not_false : (b : Bool) → false ≡ not b → b ≡ true

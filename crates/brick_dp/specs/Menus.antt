@@ -1,6 +1,5 @@
 -- The menus of the bricks of a fold: their moves within the bounds, each with what it changes the cost by.
-use Rattle.std.specs.Prelude.{◌≡◌, ℕ, ◌*◌, ◌<◌, ◌≤◌, unsigned_abs, List, length, map, All, Some, Vec, slice_get}
-use Rattle.std.specs.declared.alloc.Global.{Global}
+use Rattle.std.specs.Prelude.{◌≡◌, ℕ, ◌*◌, ◌<◌, ◌≤◌, unsigned_abs, List, length, All, Some, slice_get}
 use Rattle.lattice_theory.specs.Vectors.{Vector}
 use Rattle.lattice_theory.specs.SignedSums.{vectors}
 use Rattle.fold_theory.specs.Programs.{Brick, Bricks}
@@ -20,7 +19,3 @@ pub record AreMenus (f : FoldValue) (x : Bricks) (k : ℕ) (menus : List Menu) :
   pub size : length menus ≡ length f.program.bricks
   pub each : (i : ℕ) (b : Brick) (v : Vector) (menu : Menu) → slice_get f.program.bricks i ≡ Some b → slice_get x i ≡ Some v →
       slice_get menus i ≡ Some menu → IsBrickMenu f k b v menu
-
--- the menus in their lists
-abbrev pub menus_of : List (Vec PricedMove Global) → List Menu
-menus_of menus = map (λ (menu : Vec PricedMove Global). menu.items) menus

@@ -15,7 +15,7 @@ ghost use Rattle.brick_dp.specs.Tables.{AreLeastLayers};
 
 use crate::bounds::{Bound, needed};
 use crate::ends::last_layer;
-use crate::floors::{any_within, floor, least_change};
+use crate::floors::{any_within, floor};
 use crate::folds::Fold;
 use crate::menus::Menus;
 use fold_program::Point;
@@ -103,7 +103,7 @@ pub(crate) fn layers_under<B: Bound>(
             return Ok(None);
         };
         let menu = menus.of(bricks - done);
-        floor -= least_change(menu);
+        floor -= menus.least(bricks - done);
         add_layer(
             alloc,
             targets,

@@ -8,12 +8,11 @@ ghost use Rattle.fold_theory.specs.Programs.{AreWithin};
 ghost use Rattle.fold_program.specs.Refusals.{total_magnitude};
 ghost use Rattle.run_theory.specs.Live.{least_before};
 ghost use Rattle.brick_dp.specs.Menus.{AreMenus};
-ghost use Rattle.brick_dp.specs.Needs.{IsLeastOf, IsWithin, AreAbove};
+ghost use Rattle.brick_dp.specs.Needs.{IsWithin, AreAbove};
 
 use crate::folds::Fold;
 use crate::menus::Menus;
 use fold_program::Point;
-use layer_sieve::PricedMove;
 
 /// The least that moves of all bricks change the cost by, each taken by itself.
 pub(crate) fn floor(fold: &Fold, menus: &Menus, _point: &Point, _k: u32) -> i128
@@ -25,22 +24,9 @@ pub(crate) fn floor(fold: &Fold, menus: &Menus, _point: &Point, _k: u32) -> i128
 {
     let mut floor = 0i128;
     for done in 0..fold.program().n() {
-        floor += least_change(menus.of(done + 1));
+        floor += menus.least(done + 1);
     }
     floor
-}
-
-/// The least that a move of the menu changes the cost by; 0 where none lowers it.
-pub(crate) fn least_change(menu: &[PricedMove]) -> i128
-    ensures { IsLeastOf menu.now result }
-{
-    let mut least = 0;
-    for m in menu {
-        if m.change < least {
-            least = m.change;
-        }
-    }
-    least
 }
 
 /// Whether a cost is there that is at most the limit.

@@ -4,6 +4,8 @@ ghost use Rattle.std.specs.Prelude.{◌≡◌, ◌-◌, ◌<◌, ◌≤◌, leng
 ghost use Rattle.fold_theory.specs.Programs.{IsWithin, AreWithin};
 ghost use Rattle.brick_dp.specs.Changes.{ForBrick};
 ghost use Rattle.brick_dp.specs.Menus.{IsBrickMenu, AreMenus};
+ghost use Rattle.brick_dp.specs.Needs.{IsLeastOf};
+ghost use Rattle.sieve_laws.specs.Sieve.{Menu};
 
 use crate::changes::change;
 use crate::folds::Fold;
@@ -12,20 +14,61 @@ use layer_sieve::PricedMove;
 use std::alloc::{AllocError, Global};
 use std::marker::Model;
 
+/// The moves of one brick within its bounds, and the least that one of them changes the cost by.
+#[derive(Debug, Drop)]
+struct BrickMenu {
+    moves: Vec<PricedMove>,
+    least: i128,
+}
+
+impl Model for BrickMenu {
+    ghost use Rattle.sieve_laws.specs.Sieve.{Menu};
+    ghost use Rattle.brick_dp.specs.Needs.{IsLeastOf};
+
+    ghost Value = { Menu };
+
+    ghost view = { λ m. m.moves.items };
+
+    ghost invariant = { λ m. IsLeastOf m.moves.items m.least };
+}
+
+impl BrickMenu {
+    /// The menu of these moves.
+    fn new(moves: Vec<PricedMove>) -> BrickMenu
+        ensures { result ≡ moves.items }
+    {
+        let least = least_change(&moves);
+        BrickMenu { moves, least }
+    }
+
+    /// The moves.
+    fn moves(&self) -> &[PricedMove]
+        ensures { result.now ≡ self.now }
+    {
+        &self.moves
+    }
+
+    /// The least that a move changes the cost by; 0 where none lowers it.
+    fn least(&self) -> i128
+        ensures { IsLeastOf self.now result }
+    {
+        self.least
+    }
+}
+
 /// The menus of all bricks at a point, for steps of one length.
 #[derive(Debug, Drop)]
 pub struct Menus {
-    menus: Vec<Vec<PricedMove>>,
+    menus: Vec<BrickMenu>,
 }
 
 impl Model for Menus {
     ghost use Rattle.std.specs.Prelude.{List};
     ghost use Rattle.sieve_laws.specs.Sieve.{Menu};
-    ghost use Rattle.brick_dp.specs.Menus.{menus_of};
 
     ghost Value = { List Menu };
 
-    ghost view = { λ m. menus_of m.menus.items };
+    ghost view = { λ m. m.menus.items };
 }
 
 impl Menus {
@@ -74,7 +117,16 @@ impl Menus {
         requires to { brick ≤ length self.now }
         ensures { slice_get self.now (brick - 1) ≡ Some result.now }
     {
-        &self.menus[brick as usize - 1]
+        self.menus[brick as usize - 1].moves()
+    }
+
+    /// The least that a move of one brick changes the cost by, 0 where none lowers it; bricks are numbered from 1.
+    pub fn least(&self, brick: u32) -> i128
+        requires from { 1 ≤ brick }
+        requires to { brick ≤ length self.now }
+        ensures { (menu : Menu) → slice_get self.now (brick - 1) ≡ Some menu → IsLeastOf menu result }
+    {
+        self.menus[brick as usize - 1].least()
     }
 }
 
@@ -85,13 +137,13 @@ fn menu(
     brick: u32,
     at: &[i64],
     k: u32,
-) -> Result<Vec<PricedMove>, AllocError>
+) -> Result<BrickMenu, AllocError>
     requires from { 1 ≤ brick }
     requires to { brick ≤ length fold.now.program.bricks }
     requires within { ForBrick fold.now.program brick (λ b. IsWithin b at.now) }
     requires size { length at.now ≡ fold.now.program.link.cols }
     requires short { k < 64 }
-    ensures { IfOk result (λ menu. ForBrick fold.now.program brick (λ b. IsBrickMenu fold.now k b at.now menu.items)) }
+    ensures { IfOk result (λ menu. ForBrick fold.now.program brick (λ b. IsBrickMenu fold.now k b at.now menu)) }
 {
     let mut menu = Vec::new(alloc);
     for place in 0..fold.sums().len() {
@@ -99,5 +151,18 @@ fn menu(
             menu.push(PricedMove { place, change })?;
         }
     }
-    Ok(menu)
+    Ok(BrickMenu::new(menu))
+}
+
+/// The least that a move of the menu changes the cost by; 0 where none lowers it.
+fn least_change(menu: &[PricedMove]) -> i128
+    ensures { IsLeastOf menu.now result }
+{
+    let mut least = 0;
+    for m in menu {
+        if m.change < least {
+            least = m.change;
+        }
+    }
+    least
 }

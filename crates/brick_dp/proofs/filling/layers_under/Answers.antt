@@ -148,14 +148,14 @@ overflow_sub-floor g c =
     at_brick f x c.args.k (length f.program.bricks - c.loop-done.done - 1) c.args.menus.now c.of-menu.result.now
     program c.requires.within
     c.requires.menus (omega (arith, low)) (ap (slice_get c.args.menus.now) (sym index) ∙ c.of-menu.ensures) in
-    let found : FitsSigned w128 c.least_change-floor.result = search rules in
+    let found : FitsSigned w128 c.least-floor.result = search rules in
     let next = floor_next f x c.args.k c.loop-done.done c.of-menu.result.now (to_z w128 c.loop-done.floor-bits)
-    c.least_change-floor.result low at
-    c.requires.zero c.least_change-floor.ensures c.loop-done.invariant.floor c.loop-done.invariant.small in
+    c.least-floor.result low at
+    c.requires.zero (c.least-floor.ensures c.of-menu.result.now c.of-menu.ensures) c.loop-done.invariant.floor c.loop-done.invariant.small in
     let few_bits = floor_fits f (length f.program.bricks - (c.loop-done.done + 1))
-    (to_z w128 c.loop-done.floor-bits -ℤ c.least_change-floor.result) most next.1 in
-    let less : FitsSigned w128 (to_z w128 c.loop-done.floor-bits -ℤ c.least_change-floor.result) =
-    fits_signed_from_abs w128 (to_z w128 c.loop-done.floor-bits -ℤ c.least_change-floor.result)
+    (to_z w128 c.loop-done.floor-bits -ℤ c.least-floor.result) most next.1 in
+    let less : FitsSigned w128 (to_z w128 c.loop-done.floor-bits -ℤ c.least-floor.result) =
+    fits_signed_from_abs w128 (to_z w128 c.loop-done.floor-bits -ℤ c.least-floor.result)
     (omega (arith, few_bits)) in
     simp to_z-of_z less
 
@@ -432,14 +432,14 @@ loop-done-preserved g c =
     at_brick f x c.args.k (length f.program.bricks - c.loop-done.done - 1) c.args.menus.now c.of-menu.result.now
     program c.requires.within
     c.requires.menus (omega (arith, low)) (ap (slice_get c.args.menus.now) (sym index) ∙ c.of-menu.ensures) in
-    let found : FitsSigned w128 c.least_change-floor.result = search rules in
+    let found : FitsSigned w128 c.least-floor.result = search rules in
     let next = floor_next f x c.args.k c.loop-done.done c.of-menu.result.now (to_z w128 c.loop-done.floor-bits)
-    c.least_change-floor.result low at
-    c.requires.zero c.least_change-floor.ensures c.loop-done.invariant.floor c.loop-done.invariant.small in
+    c.least-floor.result low at
+    c.requires.zero (c.least-floor.ensures c.of-menu.result.now c.of-menu.ensures) c.loop-done.invariant.floor c.loop-done.invariant.small in
     let few_bits = floor_fits f (length f.program.bricks - (c.loop-done.done + 1))
-    (to_z w128 c.loop-done.floor-bits -ℤ c.least_change-floor.result) most next.1 in
-    let less : FitsSigned w128 (to_z w128 c.loop-done.floor-bits -ℤ c.least_change-floor.result) =
-    fits_signed_from_abs w128 (to_z w128 c.loop-done.floor-bits -ℤ c.least_change-floor.result)
+    (to_z w128 c.loop-done.floor-bits -ℤ c.least-floor.result) most next.1 in
+    let less : FitsSigned w128 (to_z w128 c.loop-done.floor-bits -ℤ c.least-floor.result) =
+    fits_signed_from_abs w128 (to_z w128 c.loop-done.floor-bits -ℤ c.least-floor.result)
     (omega (arith, few_bits)) in
     let limit : FitsSigned w128 c.in-Some.limit = search rules in
     let hope : HasHope c.args.k (g.B.Bound.last c.limit_under.new.bound) c.loop-done.layer.items
@@ -514,7 +514,7 @@ loop-done-preserved g c =
     ) in
     let floors : least_before f.program f.phase (vectors f.sums) x c.args.k (length f.program.bricks - c.loop-done.done)
     ≤ℤ least_before f.program f.phase (vectors f.sums) x c.args.k (length f.program.bricks - (c.loop-done.done + 1)) =
-    omega (arith, ints, c.loop-done.invariant.floor, next.0, c.least_change-floor.ensures.below_zero) in
+    omega (arith, ints, c.loop-done.invariant.floor, next.0, (c.least-floor.ensures c.of-menu.result.now c.of-menu.ensures).below_zero) in
     simp to_z-of_z (record {
       layers =
           layers_over-under f x c.args.k c.loop-done.done c.loop-done.layers c.add_layer.new.layers

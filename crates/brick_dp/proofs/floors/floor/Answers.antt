@@ -1,9 +1,11 @@
-use Rattle.std.proofs.Common.{◌≡◌, ◌∙◌, ◌+◌, ◌-◌, ◌*◌, ◌≤◌, ◌^◌, ◌+ℤ◌, ap, sym, arith, rules, subst, slice_get, length, FitsSigned, to_z}
+use Rattle.std.proofs.Common.{◌≡◌, ◌∙◌, ◌+◌, ◌-◌, ◌*◌, ◌≤◌, ◌^◌, ◌+ℤ◌, ap, sym, arith, rules, subst, slice_get, length, Some, FitsSigned, to_z}
 use Rattle.std.specs.Int.{w128}
 use Rattle.std.proofs.lemmas.Int.{to_z-of_z, fits_signed_from_abs}
 use Rattle.fold_theory.specs.Programs.{Program, IsProgram}
 use Rattle.fold_program.specs.Refusals.{total_magnitude}
-use Rattle.brick_dp.proofs.FillLaws.{at_brick, AtBrick}
+use Rattle.sieve_laws.specs.Sieve.{Menu}
+use Rattle.brick_dp.specs.Needs.{IsLeastOf}
+use Rattle.brick_dp.proofs.FillLaws.{at_brick, there_at, AtBrick}
 use Rattle.brick_dp.proofs.FloorLaws.{floor_more, floor_small}
 use Rattle.brick_dp.proofs.floors.floor.Goals as goal
 
@@ -14,13 +16,17 @@ overflow_add-floor c =
     let most : total_magnitude f.program ≤ 2 ^ 120 = subst (λ p. total_magnitude p ≤ 2 ^ 120) c.program.ensures c.n-done-end.ensures.magnitude in
     let bricks : c.n-done-end.result ≡ length f.program.bricks = c.n-done-end.ensures.bricks ∙ ap (λ (p : Program). length p.bricks) c.program.ensures in
     let place : c.loop-done.done + 1 - 1 ≡ c.loop-done.done = omega arith in
-    let here : AtBrick f c.args._point.now c.args._k c.loop-done.done c.of.result.now =
-    at_brick f c.args._point.now c.args._k c.loop-done.done c.args.menus.now c.of.result.now program c.requires.within
-    c.requires.menus (omega (arith, bricks, c.loop-done-test.true)) (ap (slice_get c.args.menus.now) (sym place) ∙ c.of.ensures) in
-    let found : FitsSigned w128 c.least_change-floor.result = search rules in
-    let small = floor_small f c.args._point.now c.args._k c.loop-done.done c.of.result.now (to_z w128 c.loop-done.floor-bits) c.least_change-floor.result
-    (2 * total_magnitude f.program) here c.least_change-floor.ensures c.loop-done.invariant.small in
-    simp to_z-of_z (fits_signed_from_abs w128 (to_z w128 c.loop-done.floor-bits +ℤ c.least_change-floor.result) (omega (arith, small, most)))
+    let menu : (m : Menu) × (slice_get c.args.menus.now c.loop-done.done ≡ Some m) =
+    there_at c.args.menus.now c.loop-done.done (omega (arith, bricks, c.loop-done-test.true, c.requires.menus.size)) in
+    let lowest : IsLeastOf menu.0 c.least-floor.result =
+    c.least-floor.ensures menu.0 (ap (slice_get c.args.menus.now) place ∙ menu.1) in
+    let here : AtBrick f c.args._point.now c.args._k c.loop-done.done menu.0 =
+    at_brick f c.args._point.now c.args._k c.loop-done.done c.args.menus.now menu.0 program c.requires.within
+    c.requires.menus (omega (arith, bricks, c.loop-done-test.true)) menu.1 in
+    let found : FitsSigned w128 c.least-floor.result = search rules in
+    let small = floor_small f c.args._point.now c.args._k c.loop-done.done menu.0 (to_z w128 c.loop-done.floor-bits) c.least-floor.result
+    (2 * total_magnitude f.program) here lowest c.loop-done.invariant.small in
+    simp to_z-of_z (fits_signed_from_abs w128 (to_z w128 c.loop-done.floor-bits +ℤ c.least-floor.result) (omega (arith, small, most)))
 
 pub loop-done-preserved : goal.loop-done-preserved
 loop-done-preserved c =
@@ -29,17 +35,21 @@ loop-done-preserved c =
     let most : total_magnitude f.program ≤ 2 ^ 120 = subst (λ p. total_magnitude p ≤ 2 ^ 120) c.program.ensures c.n-done-end.ensures.magnitude in
     let bricks : c.n-done-end.result ≡ length f.program.bricks = c.n-done-end.ensures.bricks ∙ ap (λ (p : Program). length p.bricks) c.program.ensures in
     let place : c.loop-done.done + 1 - 1 ≡ c.loop-done.done = omega arith in
-    let here : AtBrick f c.args._point.now c.args._k c.loop-done.done c.of.result.now =
-    at_brick f c.args._point.now c.args._k c.loop-done.done c.args.menus.now c.of.result.now program c.requires.within
-    c.requires.menus (omega (arith, bricks, c.loop-done-test.true)) (ap (slice_get c.args.menus.now) (sym place) ∙ c.of.ensures) in
-    let found : FitsSigned w128 c.least_change-floor.result = search rules in
-    let small = floor_small f c.args._point.now c.args._k c.loop-done.done c.of.result.now (to_z w128 c.loop-done.floor-bits) c.least_change-floor.result
-    (2 * total_magnitude f.program) here c.least_change-floor.ensures c.loop-done.invariant.small in
-    let sum : FitsSigned w128 (to_z w128 c.loop-done.floor-bits +ℤ c.least_change-floor.result) =
-    fits_signed_from_abs w128 (to_z w128 c.loop-done.floor-bits +ℤ c.least_change-floor.result) (omega (arith, small, most)) in
+    let menu : (m : Menu) × (slice_get c.args.menus.now c.loop-done.done ≡ Some m) =
+    there_at c.args.menus.now c.loop-done.done (omega (arith, bricks, c.loop-done-test.true, c.requires.menus.size)) in
+    let lowest : IsLeastOf menu.0 c.least-floor.result =
+    c.least-floor.ensures menu.0 (ap (slice_get c.args.menus.now) place ∙ menu.1) in
+    let here : AtBrick f c.args._point.now c.args._k c.loop-done.done menu.0 =
+    at_brick f c.args._point.now c.args._k c.loop-done.done c.args.menus.now menu.0 program c.requires.within
+    c.requires.menus (omega (arith, bricks, c.loop-done-test.true)) menu.1 in
+    let found : FitsSigned w128 c.least-floor.result = search rules in
+    let small = floor_small f c.args._point.now c.args._k c.loop-done.done menu.0 (to_z w128 c.loop-done.floor-bits) c.least-floor.result
+    (2 * total_magnitude f.program) here lowest c.loop-done.invariant.small in
+    let sum : FitsSigned w128 (to_z w128 c.loop-done.floor-bits +ℤ c.least-floor.result) =
+    fits_signed_from_abs w128 (to_z w128 c.loop-done.floor-bits +ℤ c.least-floor.result) (omega (arith, small, most)) in
     simp to_z-of_z (record {
       is =
-          floor_more f c.args._point.now c.args._k c.loop-done.done c.of.result.now (to_z w128 c.loop-done.floor-bits) c.least_change-floor.result here
-          c.requires.zero c.least_change-floor.ensures c.loop-done.invariant.is;
+          floor_more f c.args._point.now c.args._k c.loop-done.done menu.0 (to_z w128 c.loop-done.floor-bits) c.least-floor.result here
+          c.requires.zero lowest c.loop-done.invariant.is;
       small = small;
     })

@@ -2,10 +2,11 @@ use Rattle.std.proofs.Common.{◌≡◌, ◌∙◌, ◌+◌, ◌-◌, ap, sym, a
 use Rattle.std.specs.Cmp.Rules.{signed_items}
 use Rattle.fold_theory.specs.Programs.{Program, IsProgram}
 use Rattle.brick_dp.specs.declared.menus.Menus.TheInside.{Inside}
+use Rattle.sieve_laws.specs.Sieve.{Menu}
 use Rattle.brick_dp.specs.Menus.{AreMenus}
 use Rattle.brick_dp.proofs.ChangeLaws.{sized_at}
 use Rattle.brick_dp.proofs.FillLaws.{shape_of, within_at}
-use Rattle.brick_dp.proofs.MenuLaws.{Kept, AreFollowing, following_none, following_same, following_new, following_all, not_false}
+use Rattle.brick_dp.proofs.MenuLaws.{AreFollowing, following_none, following_same, following_new, following_all, not_false}
 use Rattle.brick_dp.proofs.menus.Menus.follow.Goals as goal
 use Rattle.brick_dp.proofs.menus.Menus.follow.Goals.{then-ne+in_ok-self-inside, else-ne}
 
@@ -49,7 +50,7 @@ loop-done-preserved c =
           let same : c.brick.result.now ≡ c.brick-at.result.now =
           (signed_items c.brick.result.now c.brick-at.result.now).0 (not_false _ w.if-ne.ensures) in
           let kept : c.loop-done.self-inside.menus.items ≡ c.if-ne.self-inside.menus.items = ap (λ (s : Inside). s.menus.items) (sym w.self-inside-is) in
-          subst (λ (ms : List Kept). AreFollowing f c.args.before.now c.args.after.now c.args.k ms (c.loop-done.done + 1)) kept (
+          subst (λ (ms : List Menu). AreFollowing f c.args.before.now c.args.after.now c.args.k ms (c.loop-done.done + 1)) kept (
           following_same f c.args.before.now c.args.after.now c.args.k c.loop-done.self-inside.menus.items c.loop-done.done c.brick-at.result.now
           (ap (slice_get c.args.before.now) (sym place) ∙ c.brick.ensures.vector ∙ ap Some same)
           (ap (slice_get c.args.after.now) (sym place) ∙ c.brick-at.ensures.vector) c.loop-done.invariant

@@ -4,8 +4,8 @@ use Rattle.std.proofs.lemmas.Int.{ints, to_z-of_z}
 use Rattle.std.proofs.lemmas.Option.{slice_get-get_or}
 use Rattle.sieve_laws.specs.declared.PricedMove.{PricedMove}
 use Rattle.brick_dp.proofs.FloorLaws.{IsLeastUpTo, least_kept, least_new, least_all}
-use Rattle.brick_dp.proofs.floors.least_change.Goals as goal
-use Rattle.brick_dp.proofs.floors.least_change.Goals.{then-m-least, else-m-least}
+use Rattle.brick_dp.proofs.menus.least_change.Goals as goal
+use Rattle.brick_dp.proofs.menus.least_change.Goals.{then-m-least, else-m-least}
 
 pub loop-m-preserved : goal.loop-m-preserved
 loop-m-preserved c =
