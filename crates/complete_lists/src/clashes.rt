@@ -1,10 +1,10 @@
 //! What two rows clash in: the first place where their entries have opposite signs. It is settled where some row, with
 //! either sign, is conformally below their sum up to that place.
 
-ghost use Rattle.std.specs.Prelude.{◌≡◌, ◌≤◌, ◌<◌, ◌+◌, ◌||◌, length, drop, take, All, IfOk, IfSome, not, neg_ℤ};
+ghost use Rattle.std.specs.Prelude.{◌≡◌, ◌≤◌, ◌<◌, ◌+◌, ◌||◌, length, drop, take, All, IfOk, IfSome, not};
 ghost use Rattle.std.specs.List.{list_all, list_any};
 ghost use Rattle.std.specs.List.Sorted.{IsPermutation};
-ghost use Rattle.lattice_theory.specs.Vectors.{add, is_between};
+ghost use Rattle.lattice_theory.specs.Vectors.{add};
 ghost use Rattle.lattice_theory.specs.Vectors as vector;
 ghost use Rattle.lattice_theory.specs.BasisLimits.{IsNarrow};
 ghost use Rattle.lattice_laws.proofs.Signs.{agrees};
@@ -13,7 +13,7 @@ ghost use Rattle.criterion_laws.specs.Prefixes as prefixes;
 ghost use Rattle.complete_lists.specs.Ranks.{rows_in};
 
 use crate::ranked::{Ranked, by_norm};
-use int_vectors::conforms;
+use int_vectors::{conforms, conforms_turned};
 use mat_files::Matrix;
 use std::alloc::{AllocError, Global};
 
@@ -172,26 +172,6 @@ fn lies_below(e: &[i64], z: &[i64]) -> bool
     ensures { result ≡ (vector.conforms e.now z.now || vector.conforms (vector.opposite e.now) z.now) }
 {
     conforms(e, z) || conforms_turned(e, z)
-}
-
-/// Whether the opposite of `e` is conformally below `z`.
-fn conforms_turned(e: &[i64], z: &[i64]) -> bool
-    requires { length e.now ≡ length z.now }
-    ensures { result ≡ vector.conforms (vector.opposite e.now) z.now }
-{
-    for (x, y) in e.iter().zip(z) {
-        if !lies_opposite(*x, *y) {
-            return false;
-        }
-    }
-    true
-}
-
-/// Whether `-x` lies between 0 and `y`.
-fn lies_opposite(x: i64, y: i64) -> bool
-    ensures { result ≡ is_between (neg_ℤ x) y }
-{
-    x == 0 || (x < 0) != (y < 0) && y != 0 && x.unsigned_abs() <= y.unsigned_abs()
 }
 
 /// The vector with all signs turned.

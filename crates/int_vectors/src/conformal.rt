@@ -1,7 +1,7 @@
 //! The conformal order: one vector lies below another where no entry has the other sign and none is larger
 //! in absolute value.
 
-ghost use Rattle.std.specs.Prelude.{◌≡◌, ◌<◌, ◌^◌, length, false, All, unsigned_abs};
+ghost use Rattle.std.specs.Prelude.{◌≡◌, ◌<◌, ◌^◌, length, false, All, unsigned_abs, neg_ℤ};
 ghost use Rattle.lattice_theory.specs.Vectors.{◌⊑◌, is_between, IsGreatestMultiple};
 ghost use Rattle.lattice_theory.specs.Vectors as vector;
 ghost use Rattle.lattice_theory.specs.Lattices as lattice;
@@ -24,6 +24,26 @@ fn lies_between(x: i64, y: i64) -> bool
     ensures { result ≡ is_between x y }
 {
     x == 0 || (x < 0) == (y < 0) && y != 0 && x.unsigned_abs() <= y.unsigned_abs()
+}
+
+/// Whether the opposite of `a` is conformally below `b`.
+pub fn conforms_turned(a: &[i64], b: &[i64]) -> bool
+    requires { length a.now ≡ length b.now }
+    ensures { result ≡ vector.conforms (vector.opposite a.now) b.now }
+{
+    for (x, y) in a.iter().zip(b) {
+        if !lies_opposite(*x, *y) {
+            return false;
+        }
+    }
+    true
+}
+
+/// Whether `-x` lies between 0 and `y`.
+fn lies_opposite(x: i64, y: i64) -> bool
+    ensures { result ≡ is_between (neg_ℤ x) y }
+{
+    x == 0 || (x < 0) != (y < 0) && y != 0 && x.unsigned_abs() <= y.unsigned_abs()
 }
 
 /// The greatest `m` for which `m·e` is conformally below `v`, where `e` is so and is not zero.
@@ -54,6 +74,19 @@ mod tests {
         let v = [1, 7, -3].as_slice();
         for (u, below) in [([1, 0, -2], true), ([1, 0, 2], false), ([2, 0, -2], false)] {
             assert_eq!(rt; conforms(u.as_slice(), v), below, "at {u:?}");
+        }
+    }
+
+    #[test]
+    fn the_opposite_is_below_where_no_sign_is_shared(rt: HostRuntime) {
+        let v = [1, 7, -3].as_slice();
+        for (u, below) in [
+            ([-1, 0, 2], true),
+            ([1, 0, 2], false),
+            ([-2, 0, 2], false),
+            ([-1, -7, 3], true),
+        ] {
+            assert_eq!(rt; conforms_turned(u.as_slice(), v), below, "at {u:?}");
         }
     }
 

@@ -7,7 +7,7 @@ mod product;
 mod single;
 mod total;
 
-pub use conformal::{conforms, greatest_multiple};
+pub use conformal::{conforms, conforms_turned, greatest_multiple};
 pub use product::dot;
 pub use single::{cmp_lex, is_zero, leads_positive, norm1};
 pub use total::{VecFault, add};

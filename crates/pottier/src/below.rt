@@ -4,14 +4,13 @@
 //! with the negative ones. Two words for each vector hold these places, folded modulo 64. They are asked
 //! first, both together and then each, and the entries only where they fit.
 
-ghost use Rattle.std.specs.Prelude.{◌≡◌, IfOk, length, map, All, MatchBool, neg_ℤ};
-ghost use Rattle.lattice_theory.specs.Vectors.{is_between};
+ghost use Rattle.std.specs.Prelude.{◌≡◌, IfOk, length, map, All, MatchBool};
 ghost use Rattle.lattice_theory.specs.Vectors as vector;
 ghost use Rattle.lattice_laws.proofs.SlackBases.{IsReducible};
 ghost use Rattle.pottier.specs.Vectors.{vectors};
 ghost use Rattle.pottier.specs.Signs as words;
 
-use int_vectors::conforms;
+use int_vectors::{conforms, conforms_turned};
 use std::alloc::{AllocError, Global};
 
 /// The places, modulo 64, of the positive and of the negative entries of a vector.
@@ -110,26 +109,6 @@ fn turned_lies_below(member: &[i64], signs: Signs, z: &[i64], others: Signs) -> 
     ensures { result ≡ vector.conforms (vector.opposite member.now) z.now }
 {
     fits(signs, others) && conforms_turned(member, z)
-}
-
-/// Whether the opposite of `e` is conformally below `z`.
-fn conforms_turned(e: &[i64], z: &[i64]) -> bool
-    requires { length e.now ≡ length z.now }
-    ensures { result ≡ vector.conforms (vector.opposite e.now) z.now }
-{
-    for (x, y) in e.iter().zip(z) {
-        if !lies_opposite(*x, *y) {
-            return false;
-        }
-    }
-    true
-}
-
-/// Whether `-x` lies between 0 and `y`.
-fn lies_opposite(x: i64, y: i64) -> bool
-    ensures { result ≡ is_between (neg_ℤ x) y }
-{
-    x == 0 || (x < 0) != (y < 0) && y != 0 && x.unsigned_abs() <= y.unsigned_abs()
 }
 
 /// Whether the places of each sign are among those of the other vector.
