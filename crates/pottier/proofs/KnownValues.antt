@@ -3,7 +3,6 @@ use Rattle.std.specs.Prelude.{◌≡◌, ℤ, pos, neg_ℤ, true, false, [], ◌
 use Rattle.lattice_theory.specs.Vectors.{Vector}
 use Rattle.lattice_laws.proofs.Completion.{counts}
 use Rattle.pottier.specs.Partners.{partner, pair_counts}
-use Rattle.pottier.specs.Signs.{signs_of, mark}
 use Rattle.pottier.specs.Stages.{first_rows, with_product}
 
 abbrev three : ℤ → ℤ → ℤ → Vector
@@ -39,11 +38,3 @@ a_turned_pair = refl
 
 no_pair_with_a_product_of_0 : pair_counts 3 (four (pos 0) (pos 0) (pos 1) (pos 1)) (four (pos 1) (neg_ℤ (pos 1)) (pos 0) (pos 0)) ≡ false
 no_pair_with_a_product_of_0 = refl
-
--- the positive entries of (5 0 -2 1) stand at the places 0 and 3, the negative one at place 2
-some_signs : signs_of (four (pos 5) (pos 0) (neg_ℤ (pos 2)) (pos 1)) ≡ record { up = 9; down = 4 }
-some_signs = refl
-
--- place 64 shares the bit of place 0
-a_folded_place : mark true 64 ≡ 1
-a_folded_place = refl

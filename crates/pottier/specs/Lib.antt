@@ -1,6 +1,5 @@
 pub mod Vectors
 pub mod Partners
-pub mod Signs
 pub mod Stages
 pub mod Queues
 pub mod Bases

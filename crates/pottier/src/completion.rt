@@ -12,16 +12,16 @@ ghost use Rattle.lattice_laws.proofs.SlackBases.{IsReducible};
 ghost use Rattle.lattice_laws.proofs.Completion.{CoversBelow};
 ghost use Rattle.pottier.specs.Vectors.{vectors};
 ghost use Rattle.pottier.specs.Partners.{sum_of_pair};
-ghost use Rattle.pottier.specs.Signs as words;
+ghost use Rattle.int_vectors.specs.Signs as words;
 ghost use Rattle.pottier.specs.Faults.{IsBasisFault};
 ghost use Rattle.pottier.specs.Stages.{AreMembers, AreFitting, Grows, IsStage, IsDue, IsCompleted};
 ghost use Rattle.pottier.specs.Queues.{IsPairOf, first_of, second_of};
 
 use crate::BasisFault;
-use crate::below::{Signs, all_signs, is_reducible, signs_of};
+use crate::below::{all_signs, is_reducible};
 use crate::pairs::{is_narrow, opposite, pair_sum};
 use crate::queue::{Pair, pair_up};
-use int_vectors::leads_positive;
+use int_vectors::{Signs, leads_positive, signs_of};
 use std::alloc::{AllocError, Global};
 use std::collections::BinaryHeap;
 

@@ -1,6 +1,6 @@
 use Rattle.std.proofs.Common.{◌≡◌, map, take}
 use Rattle.pottier.specs.Vectors.{vectors}
-use Rattle.pottier.specs.Signs as words
+use Rattle.int_vectors.specs.Signs as words
 use Rattle.pottier.proofs.below.all_signs.Given as goal
 
 abbrev pub invariant-loop-member : goal.invariant-loop-member

@@ -3,9 +3,10 @@ use Rattle.std.proofs.lemmas.List.Elements.{All-contains}
 use Rattle.lattice_theory.specs.Vectors.{Vector, conforms, opposite}
 use Rattle.lattice_laws.proofs.SlackBases.{IsReducible}
 use Rattle.pottier.specs.Vectors.{vectors}
-use Rattle.pottier.specs.Signs.{signs_of, has_places}
+use Rattle.int_vectors.specs.Signs.{signs_of, has_places}
 use Rattle.pottier.proofs.PairLaws.{reducible_as, reducible_turned, none_reducible, not_reducible_push, not_below, vectors_more, vectors_all, vectors_at}
-use Rattle.pottier.proofs.SignLaws.{member_signs, places_apart}
+use Rattle.int_vectors.proofs.SignLaws.{places_apart}
+use Rattle.pottier.proofs.SignLaws.{member_signs}
 use Rattle.pottier.proofs.below.is_reducible.Goals as goal
 use Rattle.pottier.proofs.below.is_reducible.Goals.{then-lies_below-via-then-lies_below, then-lies_below-via-else-lies_below+then-turned_lies_below}
 
@@ -22,7 +23,8 @@ loop-i-preserved-then-not-has_places c =
     let member = ap signs_of c.as_slice-member.ensures.value in
     let missing : has_places (signs_of v) (signs_of z) ≡ false =
     sym (λ k. has_places ((signs ∙ member) k) (c.signs_of-plain.ensures k)) ∙ sym c.has_places.ensures ∙ c.if-not-has_places.true in
-    let none = not_reducible_push (vectors (take i c.args.members.now)) v z c.loop-i.invariant (places_apart v z missing) in
+    let apart = places_apart v z missing in
+    let none = not_reducible_push (vectors (take i c.args.members.now)) v z c.loop-i.invariant (not_below v z apart.0 apart.1) in
     λ r. none (subst (λ vs. IsReducible vs z) more r)
 
 pub lies_below-requires-clause-same : goal.lies_below-requires-clause-same

@@ -1,6 +1,6 @@
 use Rattle.std.proofs.Common.{◌≡◌, ◌∙◌, false, sym}
-use Rattle.pottier.specs.Signs as words
-use Rattle.pottier.proofs.SignLaws.{turned_apart}
+use Rattle.int_vectors.specs.Signs as words
+use Rattle.int_vectors.proofs.SignLaws.{turned_apart}
 use Rattle.pottier.proofs.below.turned_lies_below.Goals as goal
 
 pub returns-else-fits : goal.returns-else-fits

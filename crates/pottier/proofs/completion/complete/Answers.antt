@@ -8,7 +8,7 @@ use Rattle.lattice_laws.proofs.SlackBases.{IsReducible}
 use Rattle.lattice_laws.proofs.Completion.{CoversBelow}
 use Rattle.pottier.specs.Vectors.{vectors}
 use Rattle.pottier.specs.Partners.{sum_of_pair}
-use Rattle.pottier.specs.Signs.{signs_of}
+use Rattle.int_vectors.specs.Signs.{signs_of}
 use Rattle.pottier.specs.Stages.{AreMembers, AreFitting, IsStage}
 use Rattle.pottier.specs.Queues.{pair_order, first_of, second_of, IsPairOf, IsPairedUp}
 use Rattle.pottier.proofs.StageLaws.{grows_length}

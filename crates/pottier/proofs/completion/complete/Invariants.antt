@@ -1,7 +1,7 @@
 use Rattle.std.proofs.Common.{◌≡◌, ◌+◌, ◌-◌, ◌*◌, length, map}
 use Rattle.std.specs.BinaryHeap.{heap_items}
 use Rattle.pottier.specs.Vectors.{vectors}
-use Rattle.pottier.specs.Signs as words
+use Rattle.int_vectors.specs.Signs as words
 use Rattle.pottier.specs.Queues.{AreQueued}
 use Rattle.pottier.proofs.completion.complete.Given as goal
 

@@ -1,7 +1,7 @@
 -- The places of the positive and of the negative entries of a vector, folded modulo 64 into two words.
 use Rattle.std.specs.Prelude.{ℕ, ℤ, pos, ◌+◌, ◌%◌, ◌^◌, ◌==◌, ◌&&◌, Bool, cond, [], ◌∷◌, bit_and, bit_or, int_lt}
 use Rattle.lattice_theory.specs.Vectors.{Vector}
-use Rattle.pottier.specs.declared.below.Signs.{Signs}
+use Rattle.int_vectors.specs.declared.signs.Signs.{Signs}
 
 -- the bit of a place, where it is to be set
 abbrev pub mark : Bool → ℕ → ℕ
@@ -35,3 +35,7 @@ exchanged a = record { up = a.down; down = a.up }
 -- no place of an entry that is not 0 is missing in the second
 abbrev pub has_places : Signs → Signs → Bool
 has_places a b = is_within (bit_or a.up a.down) (bit_or b.up b.down)
+
+-- no bit of one sign is among those of the other sign of the second
+abbrev pub are_apart : Signs → Signs → Bool
+are_apart a b = (bit_and a.up b.down == 0) && (bit_and a.down b.up == 0)

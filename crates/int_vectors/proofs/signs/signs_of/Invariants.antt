@@ -1,6 +1,6 @@
 use Rattle.std.proofs.Common.{◌≡◌, drop}
-use Rattle.pottier.specs.Signs as words
-use Rattle.pottier.proofs.below.signs_of.Given as goal
+use Rattle.int_vectors.specs.Signs as words
+use Rattle.int_vectors.proofs.signs.signs_of.Given as goal
 
 -- the signs of the entries that are left make the words whole
 abbrev pub invariant-loop-at : goal.invariant-loop-at
