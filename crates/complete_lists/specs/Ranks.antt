@@ -1,8 +1,14 @@
--- The rows of a list in another order.
-use Rattle.std.specs.Prelude.{List, map}
+-- The rows of a list in another order, and the signs of their first places.
+use Rattle.std.specs.Prelude.{ℕ, List, map, take}
 use Rattle.lattice_theory.specs.Vectors.{Vector}
+use Rattle.int_vectors.specs.declared.signs.Signs.{Signs}
+use Rattle.int_vectors.specs.Signs.{signs_of}
 use Rattle.complete_lists.specs.declared.ranked.Ranked.{Ranked}
 
 -- the rows that are kept with their norms
 abbrev pub rows_in : List Ranked → List Vector
 rows_in ranked = map (λ r. r.row.items) ranked
+
+-- the signs of so many places from the first on
+abbrev pub first_signs : ℕ → Vector → Signs
+first_signs places v = signs_of (take places v)

@@ -33,3 +33,9 @@ row_settles-requires-clause-narrow c =
 
 pub row_settles-requires-clause-widths : goal.row_settles-requires-clause-widths
 row_settles-requires-clause-widths c = c.in_ok-settlers.ensures.widths
+
+pub row_settles-requires-clause-places : goal.row_settles-requires-clause-places
+row_settles-requires-clause-places c = c.in_ok-settlers.ensures.places
+
+pub row_settles-requires-clause-signs : goal.row_settles-requires-clause-signs
+row_settles-requires-clause-signs c = c.in_ok-settlers.ensures.signs
