@@ -1,19 +1,20 @@
 //! What two rows clash in: the first place where their entries have opposite signs. It is settled where some row, with
 //! either sign, is conformally below their sum up to that place.
 
-ghost use Rattle.std.specs.Prelude.{◌≡◌, ◌≤◌, ◌<◌, ◌+◌, ◌||◌, length, drop, take, map, All, IfOk, IfSome, not};
+ghost use Rattle.std.specs.Prelude.{◌≡◌, ◌≤◌, ◌<◌, ◌+◌, ◌||◌, length, drop, take, map, All, IfOk, IfSome, not, true};
 ghost use Rattle.std.specs.List.{list_all, list_any};
 ghost use Rattle.std.specs.List.Sorted.{IsPermutation};
-ghost use Rattle.lattice_theory.specs.Vectors.{add};
+ghost use Rattle.lattice_theory.specs.Vectors.{Vector, add};
 ghost use Rattle.lattice_theory.specs.Vectors as vector;
 ghost use Rattle.lattice_theory.specs.BasisLimits.{IsNarrow};
 ghost use Rattle.lattice_laws.proofs.Signs.{agrees};
+ghost use Rattle.lattice_laws.proofs.Conformal.{agree};
 ghost use Rattle.criterion_laws.specs.Prefixes.{is_below_in, pair_settles};
 ghost use Rattle.criterion_laws.specs.Prefixes as prefixes;
 ghost use Rattle.complete_lists.specs.Ranks.{rows_in, first_signs};
 
 use crate::ranked::{Ranked, by_norm};
-use int_vectors::{Signs, conforms, conforms_turned, has_places, signs_of};
+use int_vectors::{Signs, are_apart, conforms, conforms_turned, has_places, signs_of};
 use mat_files::Matrix;
 use std::alloc::{AllocError, Global};
 
@@ -33,14 +34,15 @@ pub fn clashes_settle(alloc: Global, basis: &Matrix, cols: u32) -> Result<bool, 
 
 /// What settles a clash: a row, looked for in the order of norms, where it is behind the first `cols` entries.
 ///
-/// The signs are those of the first places of each row, `cols` of them. No later place may be among them, as it can
-/// be behind the clash.
+/// The signs are those of the first places of each row, `cols` of them, in the order of norms and in that of the list.
+/// No later place may be among them, as it can be behind the clash.
 #[derive(Drop)]
 struct Settlers {
     cols: u32,
     ranked: Vec<Ranked>,
     places: usize,
     signs: Vec<Signs>,
+    listed: Vec<Signs>,
 }
 
 /// The rows of the list.
@@ -50,15 +52,19 @@ fn settlers_of(alloc: Global, basis: &Matrix, cols: u32) -> Result<Settlers, All
     ensures widths { IfOk result (λ s. All (λ v. length v ≡ basis.now.cols) (rows_in s.ranked.items)) }
     ensures places { IfOk result (λ s. s.places ≤ s.cols) }
     ensures signs { IfOk result (λ s. s.signs.items ≡ map (first_signs s.places) (rows_in s.ranked.items)) }
+    ensures inside { IfOk result (λ s. s.places ≤ basis.now.cols) }
+    ensures listed { IfOk result (λ s. s.listed.items ≡ map (first_signs s.places) basis.now.rows) }
 {
     let ranked = by_norm(alloc, basis)?;
     let places = cols.min(basis.cols()) as usize;
     let signs = all_signs(alloc, &ranked, places)?;
+    let listed = listed_signs(alloc, basis, places)?;
     Ok(Settlers {
         cols,
         ranked,
         places,
         signs,
+        listed,
     })
 }
 
@@ -70,6 +76,19 @@ fn all_signs(alloc: Global, ranked: &[Ranked], places: usize) -> Result<Vec<Sign
     let mut signs = Vec::with_capacity(alloc, ranked.len())?;
     for i in 0..ranked.len() {
         let row = ranked[i].row.as_slice();
+        signs.push(signs_of(&row[..places]))?;
+    }
+    Ok(signs)
+}
+
+/// The signs of the first places of each row as the rows are listed.
+fn listed_signs(alloc: Global, basis: &Matrix, places: usize) -> Result<Vec<Signs>, AllocError>
+    requires { places ≤ basis.now.cols }
+    ensures { IfOk result (λ signs. signs.items ≡ map (first_signs places) basis.now.rows) }
+{
+    let mut signs = Vec::with_capacity(alloc, basis.rows() as usize)?;
+    for place in 0..basis.rows() {
+        let row = basis.row(place + 1);
         signs.push(signs_of(&row[..places]))?;
     }
     Ok(signs)
@@ -89,6 +108,8 @@ fn row_settles(
     requires widths { All (λ v. length v ≡ basis.now.cols) (rows_in settlers.now.ranked.items) }
     requires places { settlers.now.places ≤ settlers.now.cols }
     requires signs { settlers.now.signs.items ≡ map (first_signs settlers.now.places) (rows_in settlers.now.ranked.items) }
+    requires inside { settlers.now.places ≤ basis.now.cols }
+    requires listed { settlers.now.listed.items ≡ map (first_signs settlers.now.places) basis.now.rows }
     ensures { IfOk result (λ b. b ≡ list_all (pair_settles settlers.now.cols (rows_in settlers.now.ranked.items) f.now) (drop from basis.now.rows)) }
 {
     let turned = opposite(alloc, f)?;
@@ -112,32 +133,47 @@ fn signed_settles(
     requires widths { All (λ v. length v ≡ basis.now.cols) (rows_in settlers.now.ranked.items) }
     requires places { settlers.now.places ≤ settlers.now.cols }
     requires signs { settlers.now.signs.items ≡ map (first_signs settlers.now.places) (rows_in settlers.now.ranked.items) }
+    requires inside { settlers.now.places ≤ basis.now.cols }
+    requires listed { settlers.now.listed.items ≡ map (first_signs settlers.now.places) basis.now.rows }
     ensures { IfOk result (λ b. b ≡ list_all (prefixes.clash_settles settlers.now.cols (rows_in settlers.now.ranked.items) f.now) (drop from basis.now.rows)) }
 {
+    let own = signs_of(&f[..settlers.places]);
     for row in from..basis.rows() {
-        if !clash_settles(alloc, settlers, f, basis.row(row + 1))? {
+        let start = agreeing(own, settlers.listed[row as usize], settlers.places);
+        if !clash_settles(alloc, settlers, f, basis.row(row + 1), start)? {
             return Ok(false);
         }
     }
     Ok(true)
 }
 
-/// Whether what the two clash in is settled.
+/// How many places from the first on need not be looked at, as two vectors with these signs agree there.
+fn agreeing(signs: Signs, others: Signs, places: usize) -> usize
+    ensures agree { (f g : Vector) → length f ≡ length g → signs ≡ first_signs places f → others ≡ first_signs places g → agree (take result f) (take result g) ≡ true }
+    ensures within { result ≤ places }
+{
+    if are_apart(signs, others) { places } else { 0 }
+}
+
+/// Whether what the two clash in is settled, where they agree before a place.
 fn clash_settles(
     alloc: Global,
     settlers: &Settlers,
     f: &[i64],
     g: &[i64],
+    start: usize,
 ) -> Result<bool, AllocError>
     requires narrow { IsNarrow f.now }
     requires narrower { IsNarrow g.now }
     requires same { length f.now ≡ length g.now }
+    requires start { start ≤ length f.now }
+    requires agree { agree (take start f.now) (take start g.now) ≡ true }
     requires widths { All (λ v. length v ≡ length g.now) (rows_in settlers.now.ranked.items) }
     requires places { settlers.now.places ≤ settlers.now.cols }
     requires signs { settlers.now.signs.items ≡ map (first_signs settlers.now.places) (rows_in settlers.now.ranked.items) }
     ensures { IfOk result (λ b. b ≡ prefixes.clash_settles settlers.now.cols (rows_in settlers.now.ranked.items) f.now g.now) }
 {
-    let Some(at) = first_clash(f, g) else {
+    let Some(at) = first_clash(f, g, start) else {
         return Ok(true);
     };
     if at < settlers.cols as usize {
@@ -147,13 +183,15 @@ fn clash_settles(
     Ok(has_below(&settlers.ranked, &settlers.signs, settlers.places, &sum))
 }
 
-/// The first place, from 0, where the two have entries of opposite signs.
-fn first_clash(f: &[i64], g: &[i64]) -> Option<usize>
-    requires { length f.now ≡ length g.now }
+/// The first place, from 0, where the two have entries of opposite signs. They agree before `start`.
+fn first_clash(f: &[i64], g: &[i64], start: usize) -> Option<usize>
+    requires same { length f.now ≡ length g.now }
+    requires start { start ≤ length f.now }
+    requires agree { agree (take start f.now) (take start g.now) ≡ true }
     ensures first { result ≡ prefixes.first_clash f.now g.now }
     ensures inside { IfSome result (λ at. at < length f.now) }
 {
-    for at in 0..f.len() {
+    for at in start..f.len() {
         if clashes(f[at], g[at]) {
             return Some(at);
         }

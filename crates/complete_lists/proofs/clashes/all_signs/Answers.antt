@@ -1,7 +1,6 @@
-use Rattle.std.proofs.Common.{arith, ◌≤◌, ◌∙◌, sym, ap, map, take, length, Some, length-take}
+use Rattle.std.proofs.Common.{arith, ◌≤◌, ◌∙◌, sym, ap, map, length, Some, length-take}
 use Rattle.std.proofs.lemmas.List.{take_all, length-map}
 use Rattle.lattice_theory.specs.Vectors.{Vector}
-use Rattle.int_vectors.specs.Signs.{signs_of}
 use Rattle.complete_lists.specs.Ranks.{rows_in, first_signs}
 use Rattle.complete_lists.proofs.ScanLaws.{at-All}
 use Rattle.complete_lists.proofs.RankLaws.{row-there}

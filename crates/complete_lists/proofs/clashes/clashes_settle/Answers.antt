@@ -39,3 +39,9 @@ row_settles-requires-clause-places c = c.in_ok-settlers.ensures.places
 
 pub row_settles-requires-clause-signs : goal.row_settles-requires-clause-signs
 row_settles-requires-clause-signs c = c.in_ok-settlers.ensures.signs
+
+pub row_settles-requires-clause-inside : goal.row_settles-requires-clause-inside
+row_settles-requires-clause-inside c = c.in_ok-settlers.ensures.inside
+
+pub row_settles-requires-clause-listed : goal.row_settles-requires-clause-listed
+row_settles-requires-clause-listed c = c.in_ok-settlers.ensures.listed

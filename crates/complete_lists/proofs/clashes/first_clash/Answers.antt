@@ -32,7 +32,7 @@ loop-at-preserved c =
     let entry : FitsSigned w64 (get_or f at (pos 0)) = search rules in
     let other : FitsSigned w64 (get_or g at (pos 0)) = search rules in
     let test = simp to_z-of_z at c.clashes.ensures in
-    agree-more f g at low (omega (arith, c.requires)) c.loop-at.invariant
+    agree-more f g at low (omega (arith, c.requires.same)) c.loop-at.invariant
     (turned_test (agrees (get_or f at (pos 0)) (get_or g at (pos 0))) (sym test ∙ c.if-clashes.false))
 
 pub returns-clause-first : goal.returns-clause-first
@@ -41,5 +41,5 @@ returns-clause-first c =
     let g = c.args.g.now in
     let at = c.loop-at.at in
     let all : take at f ≡ f = take_all at f (omega arith) in
-    let others : take at g ≡ g = take_all at g (omega (arith, c.requires)) in
+    let others : take at g ≡ g = take_all at g (omega (arith, c.requires.same)) in
     sym (agree_clash f g (sym (λ i. agree (all i) (others i)) ∙ c.loop-at.invariant))
