@@ -1,6 +1,8 @@
 -- Laws of the signs of the first places of rows: a row without a place of another vector is not below it, however far
 -- the two are compared, and rows whose signs are apart agree.
-use Rattle.std.proofs.Common.{◌≡◌, ℕ, zero, suc, ◌+◌, ◌%◌, ◌<◌, ◌≤◌, ◌==◌, ℤ, pos, negsuc, ◌||◌, ◌&&◌, true, false, List, [], ◌∷◌, ◌++◌, length, map, take, get_or, bit_and, bit_or, refl, ap, arith, sym, ◌∙◌, Some, slice_get, length-take, eqb-true}
+use Rattle.std.proofs.Common.{◌≡◌, ℕ, zero, suc, ◌+◌, ◌%◌, ◌<◌, ◌≤◌, ◌==◌, ℤ, pos, negsuc, ◌||◌, ◌&&◌, true, false}
+use Rattle.std.proofs.Common.{List, [], ◌∷◌, ◌++◌, length, map, take, get_or, bit_and, bit_or, refl, ap, arith, sym}
+use Rattle.std.proofs.Common.{◌∙◌, Some, slice_get, length-take, eqb-true}
 use Rattle.std.proofs.lemmas.Int.{ints}
 use Rattle.std.proofs.lemmas.Bool.{and_parts}
 use Rattle.std.proofs.lemmas.Bool.Decides.{nat_tests}
@@ -31,7 +33,8 @@ pub signs-more : (places : ℕ) (rows : List Vector) (signs more : List Signs) (
 signs-more places rows signs more i v s so_far there is pushed =
     let low : i < length rows = slice_get_within rows i v there in
     pushed ∙ (λ k. so_far k ++ is k ∷ [])
-    ∙ ap (λ u. map (first_signs places) (take i rows) ++ first_signs places u ∷ []) (sym (get_or_from_slice_get rows i v v there))
+    ∙ ap (λ u. map (first_signs places) (take i rows) ++ first_signs places u ∷ [])
+    (sym (get_or_from_slice_get rows i v v there))
     ∙ sym (map_more (first_signs places) rows i v low)
 
 -- where a first place is missing, the row is not below
@@ -46,7 +49,8 @@ missing-place places z v low missing =
     cut : take places e ≡ take places v
     cut = take-take places (length z) v low
 
-    apart : (conforms (take places v) (take places z) ≡ false) × (conforms (opposite (take places v)) (take places z) ≡ false)
+    apart : (conforms (take places v) (take places z) ≡ false)
+        × (conforms (opposite (take places v)) (take places z) ≡ false)
     apart = places_apart (take places v) (take places z) missing
 
     plain : conforms e z ≡ false
@@ -56,7 +60,8 @@ missing-place places z v low missing =
 
     other : conforms (opposite e) z ≡ false
     other =
-        unless (conforms (opposite e) z) (conforms (take places (opposite e)) (take places z)) (conforms-take places (opposite e) z)
+        unless (conforms (opposite e) z) (conforms (take places (opposite e)) (take places z))
+        (conforms-take places (opposite e) z)
         (ap (λ u. conforms u (take places z)) (sym (opposite-take places e) ∙ ap opposite cut) ∙ apart.1)
 
 -- ---- rows whose signs are apart
@@ -66,9 +71,11 @@ agrees-unless : (x y : ℤ) → (is_positive x ≡ true → is_negative y ≡ tr
 agrees-unless (pos zero) (pos m) up down = grind (arith, nat_tests, ints)
 agrees-unless (pos zero) (negsuc m) up down = grind (arith, nat_tests, ints)
 agrees-unless (pos (suc n)) (pos m) up down = grind (arith, nat_tests, ints)
-agrees-unless (pos (suc n)) (negsuc m) up down = absurd (up (grind (arith, nat_tests, ints)) (grind (arith, nat_tests, ints)))
+agrees-unless (pos (suc n)) (negsuc m) up down = absurd (up (grind (arith, nat_tests, ints))
+    (grind (arith, nat_tests, ints)))
 agrees-unless (negsuc n) (pos zero) up down = grind (arith, nat_tests, ints)
-agrees-unless (negsuc n) (pos (suc m)) up down = absurd (down (grind (arith, nat_tests, ints)) (grind (arith, nat_tests, ints)))
+agrees-unless (negsuc n) (pos (suc m)) up down = absurd (down (grind (arith, nat_tests, ints))
+    (grind (arith, nat_tests, ints)))
 agrees-unless (negsuc n) (negsuc m) up down = grind (arith, nat_tests, ints)
 
 agree-marked : (u v : Vector) (a b c d at : ℕ) → length u ≡ length v →
@@ -94,7 +101,8 @@ pub agree-apart : (places : ℕ) (f g : Vector) → length f ≡ length g →
     are_apart (first_signs places f) (first_signs places g) ≡ true → agree (take places f) (take places g) ≡ true
 agree-apart places f g same apart =
     let p = and_parts (bit_and (up f) (down g) == 0) (bit_and (down f) (up g) == 0) apart in
-    agree-marked (take places f) (take places g) 0 0 0 0 0 (omega (arith, length-take places f, length-take places g, same))
+    agree-marked (take places f) (take places g) 0 0 0 0 0 (omega
+    (arith, length-take places f, length-take places g, same))
     (eqb-true (bit_and (up f) (down g)) 0 p.0) (eqb-true (bit_and (down f) (up g)) 0 p.1)
   where
     up : Vector → ℕ

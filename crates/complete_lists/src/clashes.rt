@@ -1,17 +1,17 @@
 //! What two rows clash in: the first place where their entries have opposite signs. It is settled where some row, with
 //! either sign, is conformally below their sum up to that place.
 
-ghost use Rattle.std.specs.Prelude.{◌≡◌, ◌≤◌, ◌<◌, ◌+◌, ◌||◌, length, drop, take, map, All, IfOk, IfSome, not, true};
+ghost use Rattle.std.specs.Prelude.{◌≡◌, ◌≤◌, ◌<◌, ◌+◌, ◌||◌, length, drop, take, All, IfOk, IfSome, not, true};
 ghost use Rattle.std.specs.List.{list_all, list_any};
 ghost use Rattle.std.specs.List.Sorted.{IsPermutation};
-ghost use Rattle.lattice_theory.specs.Vectors.{Vector, add};
+ghost use Rattle.lattice_theory.specs.Vectors.{add};
 ghost use Rattle.lattice_theory.specs.Vectors as vector;
 ghost use Rattle.lattice_theory.specs.BasisLimits.{IsNarrow};
 ghost use Rattle.lattice_laws.proofs.Signs.{agrees};
 ghost use Rattle.lattice_laws.proofs.Conformal.{agree};
 ghost use Rattle.criterion_laws.specs.Prefixes.{is_below_in, pair_settles};
 ghost use Rattle.criterion_laws.specs.Prefixes as prefixes;
-ghost use Rattle.complete_lists.specs.Ranks.{rows_in, first_signs};
+ghost use Rattle.complete_lists.specs.Ranks.{rows_in, signs_in, AgreeIn};
 
 use crate::ranked::{Ranked, by_norm};
 use int_vectors::{Signs, are_apart, conforms, conforms_turned, has_places, signs_of};
@@ -51,9 +51,9 @@ fn settlers_of(alloc: Global, basis: &Matrix, cols: u32) -> Result<Settlers, All
     ensures rows { IfOk result (λ s. IsPermutation basis.now.rows (rows_in s.ranked.items)) }
     ensures widths { IfOk result (λ s. All (λ v. length v ≡ basis.now.cols) (rows_in s.ranked.items)) }
     ensures places { IfOk result (λ s. s.places ≤ s.cols) }
-    ensures signs { IfOk result (λ s. s.signs.items ≡ map (first_signs s.places) (rows_in s.ranked.items)) }
+    ensures signs { IfOk result (λ s. s.signs.items ≡ signs_in s.places (rows_in s.ranked.items)) }
     ensures inside { IfOk result (λ s. s.places ≤ basis.now.cols) }
-    ensures listed { IfOk result (λ s. s.listed.items ≡ map (first_signs s.places) basis.now.rows) }
+    ensures listed { IfOk result (λ s. s.listed.items ≡ signs_in s.places basis.now.rows) }
 {
     let ranked = by_norm(alloc, basis)?;
     let places = cols.min(basis.cols()) as usize;
@@ -71,7 +71,7 @@ fn settlers_of(alloc: Global, basis: &Matrix, cols: u32) -> Result<Settlers, All
 /// The signs of the first places of each row.
 fn all_signs(alloc: Global, ranked: &[Ranked], places: usize) -> Result<Vec<Signs>, AllocError>
     requires { All (λ v. places ≤ length v) (rows_in ranked.now) }
-    ensures { IfOk result (λ signs. signs.items ≡ map (first_signs places) (rows_in ranked.now)) }
+    ensures { IfOk result (λ signs. signs.items ≡ signs_in places (rows_in ranked.now)) }
 {
     let mut signs = Vec::with_capacity(alloc, ranked.len())?;
     for i in 0..ranked.len() {
@@ -84,7 +84,7 @@ fn all_signs(alloc: Global, ranked: &[Ranked], places: usize) -> Result<Vec<Sign
 /// The signs of the first places of each row as the rows are listed.
 fn listed_signs(alloc: Global, basis: &Matrix, places: usize) -> Result<Vec<Signs>, AllocError>
     requires { places ≤ basis.now.cols }
-    ensures { IfOk result (λ signs. signs.items ≡ map (first_signs places) basis.now.rows) }
+    ensures { IfOk result (λ signs. signs.items ≡ signs_in places basis.now.rows) }
 {
     let mut signs = Vec::with_capacity(alloc, basis.rows() as usize)?;
     for place in 0..basis.rows() {
@@ -107,9 +107,9 @@ fn row_settles(
     requires width { length f.now ≡ basis.now.cols }
     requires widths { All (λ v. length v ≡ basis.now.cols) (rows_in settlers.now.ranked.items) }
     requires places { settlers.now.places ≤ settlers.now.cols }
-    requires signs { settlers.now.signs.items ≡ map (first_signs settlers.now.places) (rows_in settlers.now.ranked.items) }
+    requires signs { settlers.now.signs.items ≡ signs_in settlers.now.places (rows_in settlers.now.ranked.items) }
     requires inside { settlers.now.places ≤ basis.now.cols }
-    requires listed { settlers.now.listed.items ≡ map (first_signs settlers.now.places) basis.now.rows }
+    requires listed { settlers.now.listed.items ≡ signs_in settlers.now.places basis.now.rows }
     ensures { IfOk result (λ b. b ≡ list_all (pair_settles settlers.now.cols (rows_in settlers.now.ranked.items) f.now) (drop from basis.now.rows)) }
 {
     let turned = opposite(alloc, f)?;
@@ -132,9 +132,9 @@ fn signed_settles(
     requires width { length f.now ≡ basis.now.cols }
     requires widths { All (λ v. length v ≡ basis.now.cols) (rows_in settlers.now.ranked.items) }
     requires places { settlers.now.places ≤ settlers.now.cols }
-    requires signs { settlers.now.signs.items ≡ map (first_signs settlers.now.places) (rows_in settlers.now.ranked.items) }
+    requires signs { settlers.now.signs.items ≡ signs_in settlers.now.places (rows_in settlers.now.ranked.items) }
     requires inside { settlers.now.places ≤ basis.now.cols }
-    requires listed { settlers.now.listed.items ≡ map (first_signs settlers.now.places) basis.now.rows }
+    requires listed { settlers.now.listed.items ≡ signs_in settlers.now.places basis.now.rows }
     ensures { IfOk result (λ b. b ≡ list_all (prefixes.clash_settles settlers.now.cols (rows_in settlers.now.ranked.items) f.now) (drop from basis.now.rows)) }
 {
     let own = signs_of(&f[..settlers.places]);
@@ -149,7 +149,7 @@ fn signed_settles(
 
 /// How many places from the first on need not be looked at, as two vectors with these signs agree there.
 fn agreeing(signs: Signs, others: Signs, places: usize) -> usize
-    ensures agree { (f g : Vector) → length f ≡ length g → signs ≡ first_signs places f → others ≡ first_signs places g → agree (take result f) (take result g) ≡ true }
+    ensures agree { AgreeIn places signs others result }
     ensures within { result ≤ places }
 {
     if are_apart(signs, others) { places } else { 0 }
@@ -170,7 +170,7 @@ fn clash_settles(
     requires agree { agree (take start f.now) (take start g.now) ≡ true }
     requires widths { All (λ v. length v ≡ length g.now) (rows_in settlers.now.ranked.items) }
     requires places { settlers.now.places ≤ settlers.now.cols }
-    requires signs { settlers.now.signs.items ≡ map (first_signs settlers.now.places) (rows_in settlers.now.ranked.items) }
+    requires signs { settlers.now.signs.items ≡ signs_in settlers.now.places (rows_in settlers.now.ranked.items) }
     ensures { IfOk result (λ b. b ≡ prefixes.clash_settles settlers.now.cols (rows_in settlers.now.ranked.items) f.now g.now) }
 {
     let Some(at) = first_clash(f, g, start) else {
@@ -225,7 +225,7 @@ fn first_sums(alloc: Global, f: &[i64], g: &[i64], entries: usize) -> Result<Vec
 fn has_below(ranked: &[Ranked], signs: &[Signs], places: usize, z: &[i64]) -> bool
     requires long { All (λ v. length z.now ≤ length v) (rows_in ranked.now) }
     requires places { places ≤ length z.now }
-    requires signs { signs.now ≡ map (first_signs places) (rows_in ranked.now) }
+    requires signs { signs.now ≡ signs_in places (rows_in ranked.now) }
     ensures { result ≡ list_any (is_below_in (length z.now) z.now) (rows_in ranked.now) }
 {
     let shared = signs_of(&z[..places]);

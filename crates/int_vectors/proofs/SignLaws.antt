@@ -1,5 +1,7 @@
 -- Laws of the words that hold the signs of a vector: those of a vector that lies below another fit.
-use Rattle.std.proofs.Common.{◌≡◌, ℕ, zero, ◌+◌, ◌%◌, ◌^◌, ◌<◌, ◌≤◌, min, ℤ, pos, negsuc, neg_ℤ, suc, Bool, true, false, ◌&&◌, [], ◌∷◌, bit_and, bit_or, length, drop, get_or, refl, ap, arith, sym, ◌∙◌, subst, eq-eqb}
+use Rattle.std.proofs.Common.{◌≡◌, ℕ, zero, ◌+◌, ◌%◌, ◌^◌, ◌<◌, ◌≤◌, min, ℤ, pos, negsuc, neg_ℤ, suc, Bool, true}
+use Rattle.std.proofs.Common.{false, ◌&&◌, [], ◌∷◌, bit_and, bit_or, length, drop, get_or, refl, ap, arith, sym, ◌∙◌}
+use Rattle.std.proofs.Common.{subst, eq-eqb}
 use Rattle.std.specs.Int.{bit_at}
 use Rattle.std.proofs.lemmas.Int.{ints}
 use Rattle.std.proofs.lemmas.Bool.{and_parts, false_from_ne_true, true≢false}
@@ -9,14 +11,16 @@ use Rattle.std.proofs.lemmas.Nat.{or_comm}
 use Rattle.std.proofs.lemmas.Nat.Bits.{bit_at_and, bit_at_or, bit_at-zero, bit_at-pow_same, same_from_bits}
 use Rattle.lattice_theory.specs.Vectors.{Vector, ◌⊑◌, conforms, is_between, opposite}
 use Rattle.int_vectors.specs.declared.signs.Signs.{Signs}
-use Rattle.int_vectors.specs.Signs.{mark, marked, is_positive, is_negative, signs_of, is_within, fits, exchanged, has_places}
+use Rattle.int_vectors.specs.Signs.{mark, marked, is_positive, is_negative, signs_of, is_within, fits, exchanged}
+use Rattle.int_vectors.specs.Signs.{has_places}
 
 -- each bit of the first word is in the second
 abbrev IsPartOf : ℕ → ℕ → Type 0
 IsPartOf a b = (i : ℕ) → bit_at a i ≤ bit_at b i
 
 within_part : (a b : ℕ) → IsPartOf a b → is_within a b ≡ true
-within_part a b h = eq-eqb (bit_and a b) a (same_from_bits (bit_and a b) a (λ i. bit_at_and a b i ∙ least (bit_at a i) (bit_at b i) (h i)))
+within_part a b h = eq-eqb (bit_and a b) a (same_from_bits (bit_and a b) a
+    (λ i. bit_at_and a b i ∙ least (bit_at a i) (bit_at b i) (h i)))
   where
     least : (m n : ℕ) → m ≤ n → min m n ≡ m
     least m n low = omega arith
@@ -73,7 +77,8 @@ module _ (test other : ℤ → Bool) (turns : (a : ℤ) → test (neg_ℤ a) ≡
   marked_turned : (word at : ℕ) (v : Vector) → marked test word at (opposite v) ≡ marked other word at v
   marked_turned word at [] = refl
   marked_turned word at (x ∷ v) =
-      ap (λ b. marked test (bit_or word (mark b at)) (at + 1) (opposite v)) (turns x) ∙ marked_turned (bit_or word (mark (other x) at)) (at + 1) v
+      ap (λ b. marked test (bit_or word (mark b at)) (at + 1) (opposite v)) (turns x)
+      ∙ marked_turned (bit_or word (mark (other x) at)) (at + 1) v
 
 positive_turned : (a : ℤ) → is_positive (neg_ℤ a) ≡ is_negative a
 positive_turned (pos zero) = refl
@@ -86,7 +91,10 @@ negative_turned (pos (suc a)) = grind (arith, nat_tests, ints)
 negative_turned (negsuc a) = grind (arith, nat_tests, ints)
 
 signs_turned : (v : Vector) → signs_of (opposite v) ≡ exchanged (signs_of v)
-signs_turned v = λ i. record { up = marked_turned is_positive is_negative positive_turned 0 0 v i; down = marked_turned is_negative is_positive negative_turned 0 0 v i }
+signs_turned v = λ i. record {
+  up = marked_turned is_positive is_negative positive_turned 0 0 v i;
+  down = marked_turned is_negative is_positive negative_turned 0 0 v i;
+}
 
 fits_exchanged : (a b : Signs) → fits (exchanged a) b ≡ true → fits a (exchanged b) ≡ true
 fits_exchanged a b h = let p = and_parts (is_within a.down b.up) (is_within a.up b.down) h in both p.1 p.0
@@ -94,7 +102,8 @@ fits_exchanged a b h = let p = and_parts (is_within a.down b.up) (is_within a.up
 -- a vector whose signs do not fit those of the opposite does not lie below with the other sign
 pub turned_apart : (v z : Vector) → fits (signs_of v) (exchanged (signs_of z)) ≡ false → conforms (opposite v) z ≡ false
 turned_apart v z fails =
-    unless (conforms (opposite v) z) (fits (signs_of v) (exchanged (signs_of z))) (λ low. fits_exchanged (signs_of v) (signs_of z) (turned low)) fails
+    unless (conforms (opposite v) z) (fits (signs_of v) (exchanged (signs_of z)))
+        (λ low. fits_exchanged (signs_of v) (signs_of z) (turned low)) fails
   where
     turned : opposite v ⊑ z → fits (exchanged (signs_of v)) (signs_of z) ≡ true
     turned low = sym (ap (λ s. fits s (signs_of z)) (signs_turned v)) ∙ below_fits (opposite v) z low
@@ -129,7 +138,8 @@ places_apart v z fails = (
 marked_grows : (test : ℤ → Bool) (word at : ℕ) (v : Vector) → IsPartOf word (marked test word at v)
 marked_grows test word at [] = λ i. omega arith
 marked_grows test word at (x ∷ v) =
-    λ i. omega (arith, bit_at_or word (mark (test x) at) i, marked_grows test (bit_or word (mark (test x) at)) (at + 1) v i)
+    λ i.
+    omega (arith, bit_at_or word (mark (test x) at) i, marked_grows test (bit_or word (mark (test x) at)) (at + 1) v i)
 
 -- an entry that passes the test sets its bit
 pub marked_sets : (test : ℤ → Bool) (word at : ℕ) (x : ℤ) (v : Vector) → test x ≡ true →
@@ -137,7 +147,8 @@ pub marked_sets : (test : ℤ → Bool) (word at : ℕ) (x : ℤ) (v : Vector) �
 marked_sets test word at x v passes =
     let set : bit_at (mark (test x) at) (at % 64) ≡ 1 =
     ap (λ b. bit_at (mark b at) (at % 64)) passes ∙ bit_at-pow_same (at % 64) in
-    omega (arith, set, bit_at_or word (mark (test x) at) (at % 64), marked_grows test (bit_or word (mark (test x) at)) (at + 1) v (at % 64))
+    omega (arith, set, bit_at_or word (mark (test x) at) (at % 64),
+    marked_grows test (bit_or word (mark (test x) at)) (at + 1) v (at % 64))
 
 -- words without a common bit
 pub no_common_bit : (a b i : ℕ) → bit_and a b ≡ 0 → 1 ≤ bit_at a i → 1 ≤ bit_at b i → ⊥
@@ -146,7 +157,9 @@ no_common_bit a b i none one other =
 
 -- one entry more is marked
 pub marked_more : (test : ℤ → Bool) (word at : ℕ) (z : Vector) → at < length z →
-    marked test (bit_or word (mark (test (get_or z at (pos 0))) at)) (at + 1) (drop (at + 1) z) ≡ marked test word at (drop at z)
+    marked test (bit_or word (mark (test (get_or z at (pos 0))) at)) (at + 1) (drop (at + 1) z)
+    ≡ marked test word at (drop at z)
 marked_more test word at z low =
     let next : at + 1 ≡ suc at = omega arith in
-    ap (λ n. marked test (bit_or word (mark (test (get_or z at (pos 0))) at)) (at + 1) (drop n z)) next ∙ ap (marked test word at) (sym (drop-cons z at (pos 0) low))
+    ap (λ n. marked test (bit_or word (mark (test (get_or z at (pos 0))) at)) (at + 1) (drop n z)) next
+        ∙ ap (marked test word at) (sym (drop-cons z at (pos 0) low))

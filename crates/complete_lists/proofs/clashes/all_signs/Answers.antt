@@ -19,7 +19,8 @@ pub returns : goal.returns
 returns c =
     let size = length-map c.args.ranked.now (λ r. r.row.items) in
     c.loop-i.invariant
-    ∙ ap (map (first_signs c.args.places)) (take_all c.loop-i.i (rows_in c.args.ranked.now) (omega (arith, size, c.loop-i-test.false)))
+    ∙ ap (map (first_signs c.args.places)) (take_all c.loop-i.i (rows_in c.args.ranked.now)
+    (omega (arith, size, c.loop-i-test.false)))
 
 pub slice_bounds-signs_of-end : goal.slice_bounds-signs_of-end
 slice_bounds-signs_of-end c =

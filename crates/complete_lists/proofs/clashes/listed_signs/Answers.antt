@@ -15,4 +15,5 @@ pub returns : goal.returns
 returns c =
     c.loop-place.invariant
     ∙ ap (map (first_signs c.args.places))
-    (take_all c.loop-place.place c.args.basis.now.rows (omega (arith, c.rows-place-end.ensures, c.loop-place-test.false)))
+    (take_all c.loop-place.place c.args.basis.now.rows (omega
+    (arith, c.rows-place-end.ensures, c.loop-place-test.false)))

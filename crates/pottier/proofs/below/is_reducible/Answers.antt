@@ -24,7 +24,8 @@ loop-i-preserved-then-not-has_places c =
     let missing : has_places (signs_of v) (signs_of z) ≡ false =
     sym (λ k. has_places ((signs ∙ member) k) (c.signs_of-plain.ensures k)) ∙ sym c.has_places.ensures ∙ c.if-not-has_places.true in
     let apart = places_apart v z missing in
-    let none = not_reducible_push (vectors (take i c.args.members.now)) v z c.loop-i.invariant (not_below v z apart.0 apart.1) in
+    let none = not_reducible_push (vectors (take i c.args.members.now)) v z c.loop-i.invariant
+    (not_below v z apart.0 apart.1) in
     λ r. none (subst (λ vs. IsReducible vs z) more r)
 
 pub lies_below-requires-clause-same : goal.lies_below-requires-clause-same
