@@ -103,7 +103,7 @@ fits_exchanged a b h = let p = and_parts (is_within a.down b.up) (is_within a.up
 pub turned_apart : (v z : Vector) → fits (signs_of v) (exchanged (signs_of z)) ≡ false → conforms (opposite v) z ≡ false
 turned_apart v z fails =
     unless (conforms (opposite v) z) (fits (signs_of v) (exchanged (signs_of z)))
-        (λ low. fits_exchanged (signs_of v) (signs_of z) (turned low)) fails
+    (λ low. fits_exchanged (signs_of v) (signs_of z) (turned low)) fails
   where
     turned : opposite v ⊑ z → fits (exchanged (signs_of v)) (signs_of z) ≡ true
     turned low = sym (ap (λ s. fits s (signs_of z)) (signs_turned v)) ∙ below_fits (opposite v) z low
@@ -147,8 +147,12 @@ pub marked_sets : (test : ℤ → Bool) (word at : ℕ) (x : ℤ) (v : Vector) �
 marked_sets test word at x v passes =
     let set : bit_at (mark (test x) at) (at % 64) ≡ 1 =
     ap (λ b. bit_at (mark b at) (at % 64)) passes ∙ bit_at-pow_same (at % 64) in
-    omega (arith, set, bit_at_or word (mark (test x) at) (at % 64),
-    marked_grows test (bit_or word (mark (test x) at)) (at + 1) v (at % 64))
+    omega (
+      arith,
+      set,
+      bit_at_or word (mark (test x) at) (at % 64),
+      marked_grows test (bit_or word (mark (test x) at)) (at + 1) v (at % 64),
+    )
 
 -- words without a common bit
 pub no_common_bit : (a b i : ℕ) → bit_and a b ≡ 0 → 1 ≤ bit_at a i → 1 ≤ bit_at b i → ⊥
@@ -162,4 +166,4 @@ pub marked_more : (test : ℤ → Bool) (word at : ℕ) (z : Vector) → at < le
 marked_more test word at z low =
     let next : at + 1 ≡ suc at = omega arith in
     ap (λ n. marked test (bit_or word (mark (test (get_or z at (pos 0))) at)) (at + 1) (drop n z)) next
-        ∙ ap (marked test word at) (sym (drop-cons z at (pos 0) low))
+    ∙ ap (marked test word at) (sym (drop-cons z at (pos 0) low))
