@@ -7,7 +7,6 @@ ghost use Rattle.std.specs.Prelude.{All, IfOk};
 ghost use Rattle.lattice_theory.specs.BasisLimits.{IsNarrow};
 ghost use Rattle.convex_costs.specs.Bounds.{AreBounded};
 ghost use Rattle.lattice_theory.specs.Vectors.{IsBoundedRow};
-ghost use Rattle.fold_program.specs.Faults.{parts_value, AreWithinLimits};
 
 use crate::{Check, Rule, Verdict, check};
 use certificate::parse;

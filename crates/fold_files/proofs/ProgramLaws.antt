@@ -19,9 +19,9 @@ use Rattle.fold_program.specs.declared.FileKind.{FileKind}
 use Rattle.fold_program.specs.declared.FileKind.TheVariants as file
 use Rattle.fold_program.specs.declared.ProgramFault.{ProgramFault}
 use Rattle.fold_program.specs.declared.ProgramFault.TheVariants as program
-use Rattle.fold_program.specs.Parts.{PartsValue, program_of, related}
+use Rattle.fold_program.specs.Parts.{fold_of, program_of, related}
 use Rattle.fold_program.specs.Refusals.{in_shape, first_misshaped, program_refusal}
-use Rattle.fold_program.specs.Faults.{parts_value, AreWithinLimits, IsProgramFault}
+use Rattle.fold_program.specs.Faults.{AreWithinLimits, IsProgramFault}
 use Rattle.fold_files.specs.declared.fault.ReadFault.{ReadFault}
 use Rattle.fold_files.specs.declared.fault.ReadFault.TheVariants as read
 use Rattle.fold_files.specs.Reading.{shaped, exactly, matrix_of, relations_of, costs_of, as_program, program_in}
@@ -59,15 +59,7 @@ module _ (prefix : List ℕ) (asked : Bool) where
   abbrev pub with_costs : Matrix → Matrix → Matrix → Matrix → Matrix → List Relation → List Cost → List File
       → Result Program ReadFault
   with_costs link brick lower upper right relations costs fs =
-      as_program relations (record {
-        link = link;
-        brick = brick;
-        lower = lower;
-        upper = upper;
-        right = right;
-        costs =
-            costs;
-      })
+      as_program (fold_of link brick lower upper right relations costs)
 
   abbrev pub with_relations : Matrix → Matrix → Matrix → Matrix → Matrix → List Relation → List File
       → Result Program ReadFault
@@ -244,15 +236,7 @@ pub program_read : (files : Option (List File)) (prefix : List ℕ) (asked : Boo
     → ForTold files (λ fs. right_of prefix asked link brick lower fs ≡ Ok right)
     → ForTold files (λ fs. relations_for prefix asked link fs ≡ Ok relations)
     → ForTold files (λ fs. costs_for prefix asked link lower fs ≡ Ok costs)
-    → as_program relations (record {
-      link = link;
-      brick = brick;
-      lower = lower;
-      upper = upper;
-      right = right;
-      costs =
-          costs;
-    }) ≡ Ok p
+    → as_program (fold_of link brick lower upper right relations costs) ≡ Ok p
     → ForTold files (λ fs. program_in fs prefix asked ≡ Ok p)
 program_read None prefix asked link brick lower upper right relations costs p l b lo up r rs cs made = tt
 program_read (Some fs) prefix asked link brick lower upper right relations costs p l b lo up r rs cs made =
@@ -261,14 +245,14 @@ program_read (Some fs) prefix asked link brick lower upper right relations costs
 -- ---- the parts as they are read
 
 -- each part has the shape that those before it ask for
-pub record AreShaped (p : PartsValue) : Type 0 where
+pub record AreShaped (p : Parts) : Type 0 where
   pub link : Admits (shaped 0 16 1 32 (2 ^ 31 - 1)) p.link
   pub brick : Admits (shaped 0 16 p.link.cols p.link.cols (2 ^ 31 - 1)) p.brick
   pub lower : Admits (shaped 1 10000 p.link.cols p.link.cols (2 ^ 62)) p.lower
   pub upper : Admits (exactly (length p.lower.rows) p.link.cols) p.upper
   pub right : Admits (exactly 1 (length p.link.rows + length p.lower.rows * length p.brick.rows)) p.right
-  pub costs : All AreBounded p.costs
-  pub many : length p.costs ≡ length p.lower.rows * p.link.cols
+  pub costs : All AreBounded p.costs.items
+  pub many : length p.costs.items ≡ length p.lower.rows * p.link.cols
 
 narrow_rows : (rows : List Vector) → All (λ row. All (λ a. unsigned_abs a ≤ 2 ^ 31 - 1) row) rows → All IsNarrow rows
 narrow_rows rows small =
@@ -283,7 +267,7 @@ bounded_rows rows small =
     (λ a s. le-leb (unsigned_abs a) (2 ^ 62) s) row) rows small
 
 -- then the numbers are within their limits
-pub within_limits : (p : PartsValue) → AreShaped p → AreWithinLimits p
+pub within_limits : (p : Parts) → AreShaped p → AreWithinLimits p
 within_limits p are = record {
   link = narrow_rows p.link.rows are.link.entries;
   brick = narrow_rows p.brick.rows are.brick.entries;
@@ -303,7 +287,7 @@ in_shape_admits a b c d largest m admits =
     ) refl
 
 -- and no part is misshaped
-pub none_misshaped : (p : PartsValue) → AreShaped p → first_misshaped p ≡ None
+pub none_misshaped : (p : Parts) → AreShaped p → first_misshaped p ≡ None
 none_misshaped p are =
     let t = p.link.cols in
     let n = length p.lower.rows in
@@ -314,22 +298,19 @@ none_misshaped p are =
       in_shape_admits 1 10000 t t (2 ^ 62) p.lower are.lower,
       in_shape_admits n n t t (2 ^ 62) p.upper are.upper,
       in_shape_admits 1 1 wide wide (2 ^ 62) p.right are.right,
-      eq-eqb (length p.costs) (n * t) are.many,
+      eq-eqb (length p.costs.items) (n * t) are.many,
     ) refl
 
-refused_whole : (relations : List Relation) (p : PartsValue) (r : ProgramFault) → program_refusal (program_of p) ≡ Some r →
-    as_program relations p ≡ Err (read.Program r)
-refused_whole relations p r is = rw (is, as_program) refl
+refused_whole : (p : Program) (r : ProgramFault) → program_refusal p ≡ Some r → as_program p ≡ Err (read.Program r)
+refused_whole p r is = rw (is, as_program) refl
 
-stops_whole : (files : Option (List File)) (relations : List Relation) (p : PartsValue) (r : ProgramFault) →
-    program_refusal (program_of p) ≡ Some r →
-    ForTold files (λ fs. as_program relations p ≡ Err (read.Program r))
-stops_whole files relations p r refused = ForTold-all files _ (λ fs. refused_whole relations p r refused)
+stops_whole : (files : Option (List File)) (p : Program) (r : ProgramFault) → program_refusal p ≡ Some r →
+    ForTold files (λ fs. as_program p ≡ Err (read.Program r))
+stops_whole files p r refused = ForTold-all files _ (λ fs. refused_whole p r refused)
 
--- parts of which nothing is refused make the program
-pub accepted_whole : (relations : List Relation) (p : PartsValue) → program_refusal (program_of p) ≡ None →
-    as_program relations p ≡ Ok (related relations (program_of p))
-accepted_whole relations p is = rw (is, as_program) refl
+-- a program of which nothing is refused is given as it is
+pub accepted_whole : (p : Program) → program_refusal p ≡ None → as_program p ≡ Ok p
+accepted_whole p is = rw (is, as_program) refl
 
 -- which is one with each list of relations
 pub related_is_program : (relations : List Relation) (p : Program) → length relations ≡ length p.link.rows
@@ -345,16 +326,16 @@ related_is_program relations p many is = record {
 
 -- a fault of parts that are shaped is one of the program as a whole
 module _ (before now : Folder) (prefix : List ℕ) (relations : List Relation) (parts : Parts)
-    (shaped : first_misshaped (parts_value parts) ≡ None) where
+    (shaped : first_misshaped parts ≡ None) where
   pub program_refused : (fault : ProgramFault) → IsProgramFault parts fault →
-      IsReadCause (λ fs. as_program relations (parts_value parts)) before now prefix (whole_fault fault)
+      IsReadCause (λ fs. as_program (related relations (program_of parts))) before now prefix (whole_fault fault)
   program_refused (program.Shape kind) cause = absurd (cc)
   program_refused (program.CrossedBounds i j) cause =
-      (tt, stops_whole before.files relations (parts_value parts) (program.CrossedBounds i j) cause.1)
+      (tt, stops_whole before.files (related relations (program_of parts)) (program.CrossedBounds i j) cause.1)
   program_refused (program.Cost i j f) cause =
-      (tt, stops_whole before.files relations (parts_value parts) (program.Cost i j f) cause.1)
+      (tt, stops_whole before.files (related relations (program_of parts)) (program.Cost i j f) cause.1)
   program_refused program.CostSumTooLarge cause =
-      (tt, stops_whole before.files relations (parts_value parts) program.CostSumTooLarge cause.1)
+      (tt, stops_whole before.files (related relations (program_of parts)) program.CostSumTooLarge cause.1)
   program_refused program.Memory cause = tt
 
 -- and of no file

@@ -14,7 +14,7 @@ use Rattle.mat_files.specs.MatrixText.{parsed_matrix}
 use Rattle.fold_program.specs.declared.FileKind.{FileKind}
 use Rattle.fold_program.specs.declared.FileKind.TheVariants as file
 use Rattle.fold_program.specs.Files.{suffix_of}
-use Rattle.fold_program.specs.Parts.{PartsValue, program_of, related}
+use Rattle.fold_program.specs.Parts.{fold_of}
 use Rattle.fold_program.specs.Refusals.{program_refusal}
 use Rattle.fold_files.specs.declared.fault.CostFileFault.{CostFileFault}
 use Rattle.fold_files.specs.declared.fault.RelationFault.{RelationFault}
@@ -69,11 +69,11 @@ relations_of files prefix false r = Ok (replicate r Equal)
 relations_of files prefix true r =
     and_then (bytes_of files prefix file.Relations (2 ^ 26)) (λ bytes. as_relations (parsed_relations r bytes))
 
--- the program that the parts make, with these relations, if it is not refused
-abbrev pub as_program : List Relation → PartsValue → Result Program ReadFault
-as_program relations parts =
-    elim (program_refusal (program_of parts)) [
-      | None ↦ Ok (related relations (program_of parts))
+-- the program, if it is not refused
+abbrev pub as_program : Program → Result Program ReadFault
+as_program p =
+    elim (program_refusal p) [
+      | None ↦ Ok p
       | Some r ↦ Err (read.Program r)
     ]
 
@@ -91,15 +91,7 @@ program_in files prefix with_relations =
     and_then (matrix_of files prefix file.Right (exactly 1 (r + n * length brick.rows))) (λ right.
     and_then (relations_of files prefix with_relations r) (λ relations.
     and_then (costs_of files prefix n t) (λ costs.
-    as_program relations (record {
-      link = link;
-      brick = brick;
-      lower = lower;
-      upper = upper;
-      right = right;
-      costs =
-          costs;
-    }))))))))
+    as_program (fold_of link brick lower upper right relations costs))))))))
 
 -- the point of the program in its file, a row for each brick
 abbrev pub point_in : List File → List ℕ → Program → Result Matrix ReadFault

@@ -14,8 +14,8 @@ use Rattle.fold_program.specs.declared.parts.Parts.{Parts}
 use Rattle.fold_program.specs.declared.fault.FileKind.{FileKind}
 use Rattle.fold_program.specs.declared.fault.ProgramFault.{ProgramFault}
 use Rattle.fold_program.specs.declared.fault.ProgramFault.TheVariants as fault
-use Rattle.fold_program.specs.Parts.{PartsValue, program_of}
-use Rattle.fold_program.specs.Faults.{parts_value, IsProgramFault}
+use Rattle.fold_program.specs.Parts.{program_of}
+use Rattle.fold_program.specs.Faults.{IsProgramFault}
 use Rattle.fold_program.specs.Refusals.{in_shape, first_misshaped, crossed_in, cost_faults_in, of_each, magnitudes, brick_magnitude, total_magnitude, program_refusal, head_of}
 use Rattle.fold_gen.specs.declared.customers.Price.{Price}
 use Rattle.fold_gen.specs.declared.customers.Customer.{Customer}
@@ -116,8 +116,8 @@ counted : (b : Bool) (kind : FileKind) → b ≡ true → cond b None (Some kind
 counted b kind e = rw e refl
 
 -- the parts of these sizes fit each other
-pub well_shaped : (p : PartsValue) (n : ℕ) → 1 ≤ n → n ≤ 10000 → p.link ≡ links → p.brick ≡ shares → length p.lower.rows ≡ n → p.lower.cols ≡ 3 →
-    length p.upper.rows ≡ n → p.upper.cols ≡ 3 → length p.right.rows ≡ 1 → p.right.cols ≡ 3 + n → length p.costs ≡ n * 3 → first_misshaped p ≡ None
+pub well_shaped : (p : Parts) (n : ℕ) → 1 ≤ n → n ≤ 10000 → p.link ≡ links → p.brick ≡ shares → length p.lower.rows ≡ n → p.lower.cols ≡ 3 →
+    length p.upper.rows ≡ n → p.upper.cols ≡ 3 → length p.right.rows ≡ 1 → p.right.cols ≡ 3 + n → length p.costs.items ≡ n * 3 → first_misshaped p ≡ None
 well_shaped p n some few link brick lower_rows lower_cols upper_rows upper_cols right_rows right_cols costs =
     let links_rows : length p.link.rows ≡ 3 = ap (λ (m : Matrix). length m.rows) link in
     let links_cols : p.link.cols ≡ 3 = ap (λ (m : Matrix). m.cols) link in
@@ -131,7 +131,7 @@ well_shaped p n some few link brick lower_rows lower_cols upper_rows upper_cols 
     (passed _ _ _ (fits 1 10000 p.link.cols p.link.cols p.lower (omega arith) (omega arith) (omega arith) (omega arith))
     (passed _ _ _ (fits (length p.lower.rows) (length p.lower.rows) p.link.cols p.link.cols p.upper (omega arith) (omega arith) (omega arith) (omega arith))
     (passed _ _ _ (fits 1 1 (length p.link.rows + length p.lower.rows * length p.brick.rows) (length p.link.rows + length p.lower.rows * length p.brick.rows) p.right (omega arith) (omega arith) (omega (arith, wide)) (omega (arith, wide)))
-    (counted _ _ (nat_eq_of (length p.costs) (length p.lower.rows * p.link.cols) (costs ∙ sym many)))))))
+    (counted _ _ (nat_eq_of (length p.costs.items) (length p.lower.rows * p.link.cols) (costs ∙ sym many)))))))
 
 -- ---- the faults
 
@@ -142,13 +142,13 @@ none_some o r none some = differ (sym none ∙ some)
     differ e = cc
 
 -- so they have no fault but want of memory
-pub no_fault : (p : Parts) (f : ProgramFault) → first_misshaped (parts_value p) ≡ None → program_refusal (program_of (parts_value p)) ≡ None →
+pub no_fault : (p : Parts) (f : ProgramFault) → first_misshaped p ≡ None → program_refusal (program_of p) ≡ None →
     IsProgramFault p f → f ≡ fault.Memory
 no_fault p (fault.Shape kind) shaped accepted is = absurd (differ (sym shaped ∙ is))
   where
     differ : None ≡ Some kind → ⊥
     differ e = cc
-no_fault p (fault.CrossedBounds i j) shaped accepted is = absurd (none_some (program_refusal (program_of (parts_value p))) _ accepted is.1)
-no_fault p (fault.Cost i j f) shaped accepted is = absurd (none_some (program_refusal (program_of (parts_value p))) _ accepted is.1)
-no_fault p fault.CostSumTooLarge shaped accepted is = absurd (none_some (program_refusal (program_of (parts_value p))) _ accepted is.1)
+no_fault p (fault.CrossedBounds i j) shaped accepted is = absurd (none_some (program_refusal (program_of p)) _ accepted is.1)
+no_fault p (fault.Cost i j f) shaped accepted is = absurd (none_some (program_refusal (program_of p)) _ accepted is.1)
+no_fault p fault.CostSumTooLarge shaped accepted is = absurd (none_some (program_refusal (program_of p)) _ accepted is.1)
 no_fault p fault.Memory shaped accepted is = refl

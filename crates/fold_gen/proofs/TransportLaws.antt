@@ -5,8 +5,9 @@ use Rattle.std.proofs.lemmas.List.{append-nil, take_more, take_all, map-append, 
 use Rattle.std.proofs.lemmas.List.Elements.{All-nil, All-cons}
 use Rattle.lattice_theory.specs.Vectors.{Vector, is_bounded, IsBoundedRow}
 use Rattle.lattice_theory.specs.Matrices.{rows_of}
+use Rattle.fold_theory.specs.declared.Relation.TheVariants.{Equal}
 use Rattle.fold_theory.specs.Programs.{Brick}
-use Rattle.fold_program.specs.Parts.{bricks_from, program_of}
+use Rattle.fold_program.specs.Parts.{bricks_from, fold_of}
 use Rattle.fold_gen.specs.declared.customers.Customer.{Customer}
 use Rattle.fold_gen.specs.Transports.{brick_of, sent, links, shares, transport_of}
 
@@ -67,14 +68,11 @@ three_pushes xs a b c = append_assoc (xs ++ a ∷ []) (b ∷ []) (c ∷ []) ∙ 
 
 -- the parts of these customers make their program
 pub program_made : (cs : List Customer) (right : Vector) → right ≡ sent cs ++ map (λ c. pos c.demand) cs →
-    program_of (record {
-      link = links;
-      brick = shares;
-      lower = record { cols = 3; rows = rows_of (length cs) 3 (replicate (3 * length cs) (pos 0)) };
-      upper = record { cols = 3; rows = rows_of (length cs) 3 (flat_map (λ c. (brick_of c).upper) cs) };
-      right = record { cols = 3 + length cs; rows = rows_of 1 (3 + length cs) right };
-      costs = flat_map (λ c. (brick_of c).costs) cs;
-    }) ≡ transport_of cs
+    fold_of links shares
+    (record { cols = 3; rows = rows_of (length cs) 3 (replicate (3 * length cs) (pos 0)) })
+    (record { cols = 3; rows = rows_of (length cs) 3 (flat_map (λ c. (brick_of c).upper) cs) })
+    (record { cols = 3 + length cs; rows = rows_of 1 (3 + length cs) right })
+    (Equal ∷ Equal ∷ Equal ∷ []) (flat_map (λ c. (brick_of c).costs) cs) ≡ transport_of cs
 program_made cs right is =
     let size : length right ≤ 3 + length cs = omega (arith, ap length is, length-map cs (λ (c : Customer). pos c.demand)) in
     let one : take (3 + length cs) right ++ [] ≡ sent cs ++ map (λ (c : Customer). pos c.demand) cs =

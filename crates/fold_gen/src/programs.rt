@@ -7,7 +7,7 @@ ghost use Rattle.lattice_theory.specs.BasisLimits.{IsNarrow};
 ghost use Rattle.fold_theory.specs.Programs.{Bricks, IsFeasible};
 ghost use Rattle.convex_costs.specs.Bounds.{AreBounded};
 ghost use Rattle.fold_program.specs.Parts.{program_of};
-ghost use Rattle.fold_program.specs.Faults.{parts_value, AreWithinLimits};
+ghost use Rattle.fold_program.specs.Faults.{AreWithinLimits};
 ghost use Rattle.fold_program.specs.Refusals.{first_misshaped};
 ghost use Rattle.fold_gen.specs.Transports as transports;
 ghost use Rattle.fold_gen.specs.Transports.{brick_of, cost_of, transport_of};
@@ -47,9 +47,9 @@ pub fn transport(alloc: Global, number: u32, bricks: u32) -> Result<Program, All
 fn parts(alloc: Global, customers: &[Customer]) -> Result<Parts, AllocError>
     requires some { 1 ≤ length customers.now }
     requires few { length customers.now ≤ 10000 }
-    ensures shaped { IfOk result (λ p. first_misshaped (parts_value p) ≡ None) }
-    ensures limits { IfOk result (λ p. AreWithinLimits (parts_value p)) }
-    ensures program { IfOk result (λ p. program_of (parts_value p) ≡ transport_of customers.now) }
+    ensures shaped { IfOk result (λ p. first_misshaped p ≡ None) }
+    ensures limits { IfOk result AreWithinLimits }
+    ensures program { IfOk result (λ p. program_of p ≡ transport_of customers.now) }
 {
     let count = customers.len() as u32;
     let link = links(alloc)?;

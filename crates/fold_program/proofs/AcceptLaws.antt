@@ -11,7 +11,8 @@ use Rattle.fold_theory.specs.declared.Cost.{Cost}
 use Rattle.fold_theory.specs.Costs.{BoundedCost, value, IsConvexOn}
 use Rattle.fold_theory.specs.Programs.{IsBrick}
 use Rattle.fold_program.specs.declared.fault.FileKind.{FileKind}
-use Rattle.fold_program.specs.Parts.{PartsValue, bricks_from}
+use Rattle.fold_program.specs.declared.parts.Parts.{Parts}
+use Rattle.fold_program.specs.Parts.{bricks_from}
 use Rattle.fold_program.specs.Refusals.{in_shape, first_misshaped, magnitudes, brick_magnitude}
 use Rattle.fold_program.specs.Bounds.{IsGood, cost_magnitude}
 use Rattle.fold_program.proofs.ScanLaws.{flat}
@@ -19,7 +20,7 @@ use Rattle.fold_program.proofs.ScanLaws.{flat}
 -- ---- shapes
 
 -- the sizes of parts that fit each other
-pub record AreShaped (p : PartsValue) : Type 0 where
+pub record AreShaped (p : Parts) : Type 0 where
   pub link_rows : length p.link.rows ≤ 16
   pub cols_from : 1 ≤ p.link.cols
   pub cols_to : p.link.cols ≤ 32
@@ -32,7 +33,7 @@ pub record AreShaped (p : PartsValue) : Type 0 where
   pub upper_cols : p.upper.cols ≡ p.link.cols
   pub right_rows : length p.right.rows ≡ 1
   pub right_cols : p.right.cols ≡ length p.link.rows + length p.lower.rows * length p.brick.rows
-  pub costs : length p.costs ≡ length p.lower.rows * p.link.cols
+  pub costs : length p.costs.items ≡ length p.lower.rows * p.link.cols
 
 -- the sizes that a shape allows
 record IsInShape (a b c d : ℕ) (m : Matrix) : Type 0 where
@@ -57,7 +58,7 @@ counted : (b : Bool) (kind : FileKind) → cond b None (Some kind) ≡ None → 
 counted true kind e = refl
 counted false kind e = absurd (cc)
 
-pub shaped_from_none : (p : PartsValue) → first_misshaped p ≡ None → AreShaped p
+pub shaped_from_none : (p : Parts) → first_misshaped p ≡ None → AreShaped p
 shaped_from_none p e =
     let t = p.link.cols in
     let n = length p.lower.rows in
@@ -67,7 +68,7 @@ shaped_from_none p e =
     let lower = passed (in_shape 1 10000 t t p.lower) _ _ brick.1 in
     let upper = passed (in_shape n n t t p.upper) _ _ lower.1 in
     let right = passed (in_shape 1 1 wide wide p.right) _ _ upper.1 in
-    let costs = counted (nat_eq (length p.costs) (n * t)) _ right.1 in
+    let costs = counted (nat_eq (length p.costs.items) (n * t)) _ right.1 in
     let links = is_in_shape 0 16 1 32 p.link link.0 in
     let bricks = is_in_shape 0 16 t t p.brick brick.0 in
     let lowers = is_in_shape 1 10000 t t p.lower lower.0 in

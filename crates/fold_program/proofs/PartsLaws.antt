@@ -1,5 +1,6 @@
 -- What parts of the right shapes make: a refusal, or a program.
 use Rattle.std.proofs.Common.{◌≡◌, ℕ, ◌+◌, ◌*◌, ◌^◌, ◌-◌, ◌≤◌, ◌<◌, nat_lt, Bool, true, false, List, [], ◌∷◌, ◌++◌, length, drop, refl, ap, arith, sym, ◌∙◌, Some, None, cond, length-take, sum_by, min, All, subst, IsTrue}
+use Rattle.std.specs.Global.{Vec}
 use Rattle.std.specs.List.{AllByRecursion, zip}
 use Rattle.std.proofs.lemmas.Bool.Decides.{nat_tests}
 use Rattle.std.proofs.lemmas.List.{length-drop, length-replicate, append-nil}
@@ -11,12 +12,12 @@ use Rattle.fold_theory.specs.declared.Relation.{Relation}
 use Rattle.fold_theory.specs.declared.Relation.TheVariants.{Equal}
 use Rattle.fold_theory.specs.Costs.{BoundedCost}
 use Rattle.fold_theory.specs.Programs.{Program, IsBrick, IsProgram}
-use Rattle.fold_program.specs.Parts.{PartsValue, bricks_from, program_of, related, AreEven}
+use Rattle.fold_program.specs.Parts.{bricks_from, fold_of, program_of, related, AreEven}
 use Rattle.fold_program.specs.Refusals.{first_misshaped, head_of, of_each, crossed_in, cost_faults_in, program_refusal, total_magnitude, brick_magnitude}
 use Rattle.fold_program.specs.declared.parts.Parts.{Parts}
 use Rattle.fold_program.specs.declared.fault.ProgramFault.{ProgramFault}
 use Rattle.fold_program.specs.declared.fault.ProgramFault.TheVariants as fault
-use Rattle.fold_program.specs.Faults.{AreWithinLimits, IsProgramFault, parts_value}
+use Rattle.fold_program.specs.Faults.{AreWithinLimits, IsProgramFault}
 use Rattle.fold_program.specs.Kept.{IsKept}
 use Rattle.fold_program.specs.Bounds.{IsGood, AreBoundCosts, IsCostRefusal, cost_magnitude, scan, crossed_at, fault_at}
 use Rattle.fold_program.proofs.ScanLaws.{flat, crossed_rows, fault_rows}
@@ -33,7 +34,7 @@ first_part : (xs ys : List ProgramFault) (r : ProgramFault) → head_of xs ≡ S
 first_part [] ys r e = absurd (cc)
 first_part (x ∷ xs) ys r e = e
 
-module _ (p : PartsValue) (fits : None ≡ first_misshaped p) (even : AreEven p) where
+module _ (p : Parts) (fits : None ≡ first_misshaped p) (even : AreEven p) where
   shaped : AreShaped p
   shaped = shaped_from_none p (sym fits)
 
@@ -43,13 +44,13 @@ module _ (p : PartsValue) (fits : None ≡ first_misshaped p) (even : AreEven p)
   upper_even : AllByRecursion (λ row. length row ≡ p.link.cols) p.upper.rows
   upper_even = subst (λ (n : ℕ). AllByRecursion (λ row. length row ≡ n) p.upper.rows) shaped.upper_cols (recursion_from_All (λ row. length row ≡ p.upper.cols) p.upper.rows even.upper)
 
-  pub lowers_are : length (flat p.lower.rows) ≡ length p.costs
+  pub lowers_are : length (flat p.lower.rows) ≡ length p.costs.items
   lowers_are = length-flat p.link.cols p.lower.rows lower_even ∙ sym shaped.costs
 
-  pub uppers_are : length (flat p.upper.rows) ≡ length p.costs
+  pub uppers_are : length (flat p.upper.rows) ≡ length p.costs.items
   uppers_are = length-flat p.link.cols p.upper.rows upper_even ∙ ap (λ n. n * p.link.cols) shaped.upper_rows ∙ sym shaped.costs
 
-  pub few_costs : length p.costs < 2 ^ 31
+  pub few_costs : length p.costs.items < 2 ^ 31
   few_costs =
       let rows : length p.lower.rows * p.link.cols ≤ 10000 * p.link.cols = mul-le-mul_right p.link.cols shaped.lower_to in
       omega (arith, rows, shaped.cols_to, shaped.costs)
@@ -60,12 +61,12 @@ module _ (p : PartsValue) (fits : None ≡ first_misshaped p) (even : AreEven p)
   pub crossed_are : of_each (λ i b. crossed_in i 1 b.lower b.upper) 1 (program_of p).bricks ≡ scan (crossed_at p.link.cols) 0 (zip (flat p.lower.rows) (flat p.upper.rows))
   crossed_are =
       let start : 0 * p.link.cols ≡ 0 = omega arith in
-      rw start at (crossed_rows p.link.cols (length p.brick.rows) 0 p.lower.rows p.upper.rows (drop (length p.link.rows) (flat p.right.rows)) p.costs lower_even upper_even (sym shaped.upper_rows))
+      rw start at (crossed_rows p.link.cols (length p.brick.rows) 0 p.lower.rows p.upper.rows (drop (length p.link.rows) (flat p.right.rows)) p.costs.items lower_even upper_even (sym shaped.upper_rows))
 
-  pub faults_are : of_each (λ i b. cost_faults_in i 1 b.costs b.lower b.upper) 1 (program_of p).bricks ≡ scan (fault_at p.link.cols) 0 (zip p.costs (zip (flat p.lower.rows) (flat p.upper.rows)))
+  pub faults_are : of_each (λ i b. cost_faults_in i 1 b.costs b.lower b.upper) 1 (program_of p).bricks ≡ scan (fault_at p.link.cols) 0 (zip p.costs.items (zip (flat p.lower.rows) (flat p.upper.rows)))
   faults_are =
       let start : 0 * p.link.cols ≡ 0 = omega arith in
-      rw start at (fault_rows p.link.cols (length p.brick.rows) 0 p.lower.rows p.upper.rows (drop (length p.link.rows) (flat p.right.rows)) p.costs lower_even upper_even (sym shaped.upper_rows) shaped.costs)
+      rw start at (fault_rows p.link.cols (length p.brick.rows) 0 p.lower.rows p.upper.rows (drop (length p.link.rows) (flat p.right.rows)) p.costs.items lower_even upper_even (sym shaped.upper_rows) shaped.costs)
 
   -- crossed bounds come first
   pub refused_crossed : (r : ProgramFault) → head_of (scan (crossed_at p.link.cols) 0 (zip (flat p.lower.rows) (flat p.upper.rows))) ≡ Some r → program_refusal (program_of p) ≡ Some r
@@ -77,7 +78,7 @@ module _ (p : PartsValue) (fits : None ≡ first_misshaped p) (even : AreEven p)
 
   -- then the costs
   pub refused_cost : (r : ProgramFault) → scan (crossed_at p.link.cols) 0 (zip (flat p.lower.rows) (flat p.upper.rows)) ≡ [] →
-      head_of (scan (fault_at p.link.cols) 0 (zip p.costs (zip (flat p.lower.rows) (flat p.upper.rows)))) ≡ Some r → program_refusal (program_of p) ≡ Some r
+      head_of (scan (fault_at p.link.cols) 0 (zip p.costs.items (zip (flat p.lower.rows) (flat p.upper.rows)))) ≡ Some r → program_refusal (program_of p) ≡ Some r
   refused_cost r none e =
       let faults = of_each (λ i b. cost_faults_in i 1 b.costs b.lower b.upper) 1 (program_of p).bricks in
       let sum = cond (nat_lt (2 ^ 120) (total_magnitude (program_of p))) (fault.CostSumTooLarge ∷ []) [] in
@@ -85,20 +86,20 @@ module _ (p : PartsValue) (fits : None ≡ first_misshaped p) (even : AreEven p)
 
   -- then their sum
   last_refusal : (b : Bool) → nat_lt (2 ^ 120) (total_magnitude (program_of p)) ≡ b → scan (crossed_at p.link.cols) 0 (zip (flat p.lower.rows) (flat p.upper.rows)) ≡ [] →
-      scan (fault_at p.link.cols) 0 (zip p.costs (zip (flat p.lower.rows) (flat p.upper.rows))) ≡ [] → program_refusal (program_of p) ≡ head_of (cond b (fault.CostSumTooLarge ∷ []) [])
+      scan (fault_at p.link.cols) 0 (zip p.costs.items (zip (flat p.lower.rows) (flat p.upper.rows))) ≡ [] → program_refusal (program_of p) ≡ head_of (cond b (fault.CostSumTooLarge ∷ []) [])
   last_refusal b test none faultless =
       let faults = of_each (λ i b. cost_faults_in i 1 b.costs b.lower b.upper) 1 (program_of p).bricks in
       let sum = cond (nat_lt (2 ^ 120) (total_magnitude (program_of p))) (fault.CostSumTooLarge ∷ []) [] in
       ap (λ xs. head_of (xs ++ faults ++ sum)) (crossed_are ∙ none) ∙ ap (λ xs. head_of (xs ++ sum)) (faults_are ∙ faultless) ∙ ap (λ t. head_of (cond t (fault.CostSumTooLarge ∷ []) [])) test
 
-  module _ (cs : List BoundedCost) (bound : AreBoundCosts p.costs (flat p.lower.rows) (flat p.upper.rows) cs) where
+  module _ (cs : List BoundedCost) (bound : AreBoundCosts p.costs.items (flat p.lower.rows) (flat p.upper.rows) cs) where
     pub total_is : total_magnitude (program_of p) ≡ sum_by cost_magnitude cs
     total_is =
         ap (λ costs. sum_by brick_magnitude (bricks_from p.link.cols (length p.brick.rows) p.lower.rows p.upper.rows (drop (length p.link.rows) (flat p.right.rows)) costs)) (sym bound.costs_are)
         ∙ bricks_weigh p.link.cols (length p.brick.rows) p.lower.rows p.upper.rows (drop (length p.link.rows) (flat p.right.rows)) cs lower_even upper_even shaped.upper_rows bound.lower_is bound.upper_is
 
     pub refused_sum : 2 ^ 120 < min (sum_by cost_magnitude cs) (2 ^ 128 - 1) → scan (crossed_at p.link.cols) 0 (zip (flat p.lower.rows) (flat p.upper.rows)) ≡ [] →
-        scan (fault_at p.link.cols) 0 (zip p.costs (zip (flat p.lower.rows) (flat p.upper.rows))) ≡ [] → program_refusal (program_of p) ≡ Some fault.CostSumTooLarge
+        scan (fault_at p.link.cols) 0 (zip p.costs.items (zip (flat p.lower.rows) (flat p.upper.rows))) ≡ [] → program_refusal (program_of p) ≡ Some fault.CostSumTooLarge
     refused_sum large none faultless =
         let total = total_is in
         let past : 2 ^ 120 < total_magnitude (program_of p) = omega arith in
@@ -109,7 +110,7 @@ module _ (p : PartsValue) (fits : None ≡ first_misshaped p) (even : AreEven p)
     small_sum small = let total = total_is in omega arith
 
     pub accepted : total_magnitude (program_of p) ≤ 2 ^ 120 → scan (crossed_at p.link.cols) 0 (zip (flat p.lower.rows) (flat p.upper.rows)) ≡ [] →
-        scan (fault_at p.link.cols) 0 (zip p.costs (zip (flat p.lower.rows) (flat p.upper.rows))) ≡ [] → program_refusal (program_of p) ≡ None
+        scan (fault_at p.link.cols) 0 (zip p.costs.items (zip (flat p.lower.rows) (flat p.upper.rows))) ≡ [] → program_refusal (program_of p) ≡ None
     accepted small none faultless =
         let test : nat_lt (2 ^ 120) (total_magnitude (program_of p)) ≡ false = grind (arith, nat_tests) in
         last_refusal false test none faultless
@@ -143,10 +144,10 @@ module _ (p : PartsValue) (fits : None ≡ first_misshaped p) (even : AreEven p)
         }
 
 -- the fault of the costs is that of the parts
-pub is_program_fault : (p : Parts) → None ≡ first_misshaped (parts_value p) → AreEven (parts_value p) → (f : ProgramFault) →
+pub is_program_fault : (p : Parts) → None ≡ first_misshaped p → AreEven p → (f : ProgramFault) →
     scan (crossed_at p.link.cols) 0 (zip (flat p.lower.rows) (flat p.upper.rows)) ≡ [] →
     IsCostRefusal (scan (fault_at p.link.cols) 0 (zip p.costs.items (zip (flat p.lower.rows) (flat p.upper.rows)))) f → IsProgramFault p f
-is_program_fault p fits even (fault.Cost i j c) none refused = (sym fits, refused_cost (parts_value p) fits even (fault.Cost i j c) none refused)
+is_program_fault p fits even (fault.Cost i j c) none refused = (sym fits, refused_cost p fits even (fault.Cost i j c) none refused)
 is_program_fault p fits even (fault.Shape k) none refused = absurd refused
 is_program_fault p fits even (fault.CrossedBounds i j) none refused = absurd refused
 is_program_fault p fits even fault.CostSumTooLarge none refused = absurd refused
@@ -163,8 +164,8 @@ is_related p relations program size = record {
 }
 
 -- all that a program keeps is true of parts that are accepted
-pub is_kept : (p : PartsValue) → None ≡ first_misshaped p → AreEven p → AreWithinLimits p → (cs : List BoundedCost) → AreBoundCosts p.costs (flat p.lower.rows) (flat p.upper.rows) cs →
-    min (sum_by cost_magnitude cs) (2 ^ 128 - 1) ≤ 2 ^ 120 → (relations : List Relation) → length relations ≡ length p.link.rows →
+pub is_kept : (p : Parts) → None ≡ first_misshaped p → AreEven p → AreWithinLimits p → (cs : Vec BoundedCost) → AreBoundCosts p.costs.items (flat p.lower.rows) (flat p.upper.rows) cs.items →
+    min (sum_by cost_magnitude cs.items) (2 ^ 128 - 1) ≤ 2 ^ 120 → (relations : Vec Relation) → length relations.items ≡ length p.link.rows →
     IsKept (record { link = p.link; brick = p.brick; lower = p.lower; upper = p.upper; right = p.right; costs = cs; relations = relations })
 is_kept p fits even limits cs bound small relations size =
     let shaped = shaped_from_none p (sym fits) in
@@ -189,8 +190,8 @@ is_kept p fits even limits cs bound small relations size =
       upper_widths = subst (λ (n : ℕ). All (λ row. length row ≡ n) p.upper.rows) shaped.upper_cols even.upper;
       lowers = bound.lower_is;
       uppers = bound.upper_is;
-      small = subst (λ (costs : List Cost). total_magnitude (program_of (record { link = p.link; brick = p.brick; lower = p.lower; upper = p.upper; right = p.right; costs = costs })) ≤ 2 ^ 120)
-          (sym bound.costs_are) (small_sum p fits even cs bound small);
-      program = subst (λ (costs : List Cost). IsProgram (related relations (program_of (record { link = p.link; brick = p.brick; lower = p.lower; upper = p.upper; right = p.right; costs = costs }))))
-          (sym bound.costs_are) (is_related (program_of p) relations (is_program p fits even cs bound) size);
+      small = subst (λ (costs : List Cost). total_magnitude (fold_of p.link p.brick p.lower p.upper p.right relations.items costs) ≤ 2 ^ 120)
+          (sym bound.costs_are) (small_sum p fits even cs.items bound small);
+      program = subst (λ (costs : List Cost). IsProgram (fold_of p.link p.brick p.lower p.upper p.right relations.items costs))
+          (sym bound.costs_are) (is_related (program_of p) relations.items (is_program p fits even cs.items bound) size);
     }

@@ -6,32 +6,33 @@ use Rattle.lattice_theory.specs.Vectors.{Vector}
 use Rattle.fold_theory.specs.Programs.{Program, Brick}
 use Rattle.fold_program.specs.Parts.{all_entries}
 use Rattle.fold_program.specs.Places.{HasBoundedSides}
-use Rattle.fold_program.specs.Kept.{Stored, IsKept, stored_program}
+use Rattle.fold_program.specs.declared.program.Program.TheInside.{Inside}
+use Rattle.fold_program.specs.Kept.{IsKept, kept_program}
 use Rattle.fold_program.proofs.BrickLaws.{length_bricks_from, bricks_bounded, brick_from_at, IsBrickOf}
 
-pub bricks_are : (p : Stored) (q : Program) → IsKept p → stored_program p ≡ q → length q.bricks ≡ length p.lower.rows
+pub bricks_are : (p : Inside) (q : Program) → IsKept p → kept_program p ≡ q → length q.bricks ≡ length p.lower.rows
 bricks_are p q kept view =
     sym (ap (λ (v : Program). length v.bricks) view) ∙ length_bricks_from _ _ p.lower.rows p.upper.rows _ _ kept.upper_rows
 
-pub sides_are_bounded : (p : Stored) (q : Program) → IsKept p → stored_program p ≡ q → All HasBoundedSides q.bricks
+pub sides_are_bounded : (p : Inside) (q : Program) → IsKept p → kept_program p ≡ q → All HasBoundedSides q.bricks
 sides_are_bounded p q kept view =
     subst (λ (v : Program). All HasBoundedSides v.bricks) view (bricks_bounded _ _ p.lower.rows p.upper.rows _ _ kept.lower_bounded kept.upper_bounded)
 
-pub links_are : (p : Stored) (q : Program) → IsKept p → stored_program p ≡ q → q.link ≡ p.link
+pub links_are : (p : Inside) (q : Program) → IsKept p → kept_program p ≡ q → q.link ≡ p.link
 links_are p q kept view = sym (ap (λ (v : Program). v.link) view)
 
-pub brick_rows_are : (p : Stored) (q : Program) → IsKept p → stored_program p ≡ q → q.brick ≡ p.brick
+pub brick_rows_are : (p : Inside) (q : Program) → IsKept p → kept_program p ≡ q → q.brick ≡ p.brick
 brick_rows_are p q kept view = sym (ap (λ (v : Program). v.brick) view)
 
 -- what is true of the brick at place i
-abbrev pub IsStoredBrick : Stored → ℕ → Brick → Type 0
-IsStoredBrick p i b =
-    IsBrickOf p.link.cols (length p.brick.rows) p.lower.rows p.upper.rows (drop (length p.link.rows) (all_entries p.right)) (map (λ c. c.cost) p.costs) i b
+abbrev pub IsKeptBrick : Inside → ℕ → Brick → Type 0
+IsKeptBrick p i b =
+    IsBrickOf p.link.cols (length p.brick.rows) p.lower.rows p.upper.rows (drop (length p.link.rows) (all_entries p.right)) (map (λ c. c.cost) p.costs.items) i b
 
-pub brick_at : (p : Stored) (q : Program) (i : ℕ) → IsKept p → stored_program p ≡ q → i < length q.bricks →
-    (b : Brick) × (slice_get q.bricks i ≡ Some b) × IsStoredBrick p i b
+pub brick_at : (p : Inside) (q : Program) (i : ℕ) → IsKept p → kept_program p ≡ q → i < length q.bricks →
+    (b : Brick) × (slice_get q.bricks i ≡ Some b) × IsKeptBrick p i b
 brick_at p q i kept view inside =
-    subst (λ (v : Program). (b : Brick) × (slice_get v.bricks i ≡ Some b) × IsStoredBrick p i b) view
+    subst (λ (v : Program). (b : Brick) × (slice_get v.bricks i ≡ Some b) × IsKeptBrick p i b) view
     (brick_from_at _ _ _ _ _ _ i kept.upper_rows (omega (arith, bricks_are p q kept view)))
 
 pub same_some : {A : Type 0} → (a b : A) → Some a ≡ Some b → a ≡ b

@@ -6,28 +6,25 @@ use Rattle.convex_costs.specs.Bounds.{AreBounded}
 use Rattle.fold_program.specs.declared.parts.Parts.{Parts}
 use Rattle.fold_program.specs.declared.fault.ProgramFault.{ProgramFault}
 use Rattle.fold_program.specs.declared.fault.ProgramFault.TheVariants as fault
-use Rattle.fold_program.specs.Parts.{PartsValue, program_of}
+use Rattle.fold_program.specs.Parts.{program_of}
 use Rattle.fold_program.specs.Refusals.{first_misshaped, program_refusal}
 
-abbrev pub parts_value : Parts → PartsValue
-parts_value p = record { link = p.link; brick = p.brick; lower = p.lower; upper = p.upper; right = p.right; costs = p.costs.items }
-
 -- the entries and the numbers of the costs are within their limits
-pub record AreWithinLimits (p : PartsValue) : Type 0 where
+pub record AreWithinLimits (p : Parts) : Type 0 where
   pub link : All IsNarrow p.link.rows
   pub brick : All IsNarrow p.brick.rows
   pub lower : All IsBoundedRow p.lower.rows
   pub upper : All IsBoundedRow p.upper.rows
   pub right : All IsBoundedRow p.right.rows
-  pub costs : All AreBounded p.costs
+  pub costs : All AreBounded p.costs.items
 
 -- the first part that is misshaped, or else the first refusal of the program that the parts make; want of memory may come
 -- at any time
 abbrev pub IsProgramFault : Parts → ProgramFault → Type 0
-IsProgramFault p (fault.Shape kind) = first_misshaped (parts_value p) ≡ Some kind
+IsProgramFault p (fault.Shape kind) = first_misshaped p ≡ Some kind
 IsProgramFault p fault.Memory = Unit {0}
-IsProgramFault p f = (first_misshaped (parts_value p) ≡ None) × (program_refusal (program_of (parts_value p)) ≡ Some f)
+IsProgramFault p f = (first_misshaped p ≡ None) × (program_refusal (program_of p) ≡ Some f)
 
 -- nothing is refused
 abbrev pub AreAccepted : Parts → Type 0
-AreAccepted p = (first_misshaped (parts_value p) ≡ None) × (program_refusal (program_of (parts_value p)) ≡ None)
+AreAccepted p = (first_misshaped p ≡ None) × (program_refusal (program_of p) ≡ None)

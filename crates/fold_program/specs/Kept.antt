@@ -1,33 +1,19 @@
 -- What a program keeps in memory, how it is seen, and what is true of it.
-use Rattle.std.specs.Prelude.{◌≡◌, ◌+◌, ◌*◌, ◌^◌, ◌≤◌, List, map, length, All}
-use Rattle.lattice_theory.specs.Matrices.{Matrix}
+use Rattle.std.specs.Prelude.{◌≡◌, ◌+◌, ◌*◌, ◌^◌, ◌≤◌, map, length, All}
 use Rattle.lattice_theory.specs.BasisLimits.{IsNarrow}
-use Rattle.fold_theory.specs.declared.Relation.{Relation}
-use Rattle.fold_theory.specs.Costs.{BoundedCost}
 use Rattle.fold_theory.specs.Programs.{Program, IsProgram}
-use Rattle.fold_program.specs.Parts.{PartsValue, all_entries, program_of, related}
+use Rattle.fold_program.specs.declared.program.Program.TheInside.{Inside}
+use Rattle.fold_program.specs.Parts.{all_entries, fold_of}
 use Rattle.lattice_theory.specs.Vectors.{IsBoundedRow}
 use Rattle.fold_program.specs.Refusals.{total_magnitude}
 
--- the matrices, the costs with their bounds, and the relations of the linking rows
-pub record Stored : Type 0 where
-  pub link : Matrix
-  pub brick : Matrix
-  pub lower : Matrix
-  pub upper : Matrix
-  pub right : Matrix
-  pub costs : List BoundedCost
-  pub relations : List Relation
-
-abbrev pub stored_parts : Stored → PartsValue
-stored_parts p = record { link = p.link; brick = p.brick; lower = p.lower; upper = p.upper; right = p.right; costs = map (λ c. c.cost) p.costs }
-
-abbrev pub stored_program : Stored → Program
-stored_program p = related p.relations (program_of (stored_parts p))
+-- the program that is kept
+abbrev pub kept_program : Inside → Program
+kept_program p = fold_of p.link p.brick p.lower p.upper p.right p.relations.items (map (λ c. c.cost) p.costs.items)
 
 -- the sizes of the parts and of their entries are within their limits, the costs stand with the bounds of their columns, and
 -- the whole is a program
-pub record IsKept (p : Stored) : Type 0 where
+pub record IsKept (p : Inside) : Type 0 where
   pub link_rows : length p.link.rows ≤ 16
   pub cols_from : 1 ≤ p.link.cols
   pub cols_to : p.link.cols ≤ 32
@@ -46,7 +32,7 @@ pub record IsKept (p : Stored) : Type 0 where
   pub upper_bounded : All IsBoundedRow p.upper.rows
   pub lower_widths : All (λ row. length row ≡ p.link.cols) p.lower.rows
   pub upper_widths : All (λ row. length row ≡ p.link.cols) p.upper.rows
-  pub lowers : map (λ c. c.lower) p.costs ≡ all_entries p.lower
-  pub uppers : map (λ c. c.upper) p.costs ≡ all_entries p.upper
-  pub small : total_magnitude (stored_program p) ≤ 2 ^ 120
-  pub program : IsProgram (stored_program p)
+  pub lowers : map (λ c. c.lower) p.costs.items ≡ all_entries p.lower
+  pub uppers : map (λ c. c.upper) p.costs.items ≡ all_entries p.upper
+  pub small : total_magnitude (kept_program p) ≤ 2 ^ 120
+  pub program : IsProgram (kept_program p)

@@ -11,7 +11,7 @@ use Rattle.fold_program.specs.declared.fault.FileKind.{FileKind}
 use Rattle.fold_program.specs.declared.fault.FileKind.TheVariants as file
 use Rattle.fold_program.specs.declared.fault.ProgramFault.{ProgramFault}
 use Rattle.fold_program.specs.declared.fault.ProgramFault.TheVariants as fault
-use Rattle.fold_program.specs.Parts.{PartsValue}
+use Rattle.fold_program.specs.declared.parts.Parts.{Parts}
 
 -- a number of rows and of columns in these ranges
 abbrev pub in_shape : ℕ → ℕ → ℕ → ℕ → Matrix → Bool
@@ -19,7 +19,7 @@ in_shape rows_from rows_to cols_from cols_to m =
     nat_le rows_from (length m.rows) && nat_le (length m.rows) rows_to && nat_le cols_from m.cols && nat_le m.cols cols_to
 
 -- the first part whose shape is wrong, each tested against those before it
-abbrev pub first_misshaped : PartsValue → Option FileKind
+abbrev pub first_misshaped : Parts → Option FileKind
 first_misshaped p =
     let t = p.link.cols in
     let n = length p.lower.rows in
@@ -29,7 +29,7 @@ first_misshaped p =
     (cond (not (in_shape 1 10000 t t p.lower)) (Some file.Lower)
     (cond (not (in_shape n n t t p.upper)) (Some file.Upper)
     (cond (not (in_shape 1 1 wide wide p.right)) (Some file.Right)
-    (cond (nat_eq (length p.costs) (n * t)) None (Some file.Costs))))))
+    (cond (nat_eq (length p.costs.items) (n * t)) None (Some file.Costs))))))
 
 -- the first of what is refused; bricks and columns are numbered from 1
 abbrev pub head_of : List ProgramFault → Option ProgramFault

@@ -34,29 +34,14 @@ pub struct Program {
 
 impl Model for Program {
     ghost use Rattle.fold_theory.specs.Programs as programs;
-    ghost use Rattle.fold_program.specs.Kept.{stored_program, IsKept};
 
     ghost Value = { programs.Program };
 
-    ghost view = { λ p. stored_program (record {
-      link = p.link;
-      brick = p.brick;
-      lower = p.lower;
-      upper = p.upper;
-      right = p.right;
-      costs = p.costs.items;
-      relations = p.relations.items;
-    }) };
+    ghost use Rattle.fold_program.specs.Kept.{kept_program, IsKept};
 
-    ghost invariant = { λ p. IsKept (record {
-      link = p.link;
-      brick = p.brick;
-      lower = p.lower;
-      upper = p.upper;
-      right = p.right;
-      costs = p.costs.items;
-      relations = p.relations.items;
-    }) };
+    ghost view = { kept_program };
+
+    ghost invariant = { IsKept };
 }
 
 impl Program {

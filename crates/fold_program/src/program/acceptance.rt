@@ -8,7 +8,7 @@ ghost use Rattle.convex_costs.specs.Bounds.{AreBounded};
 ghost use Rattle.fold_program.specs.Parts.{program_of, IsEven, AreEven};
 ghost use Rattle.fold_program.specs.Refusals.{first_misshaped as misshaped, in_shape as is_in_shape, head_of};
 ghost use Rattle.lattice_theory.specs.Vectors.{IsBoundedRow};
-ghost use Rattle.fold_program.specs.Faults.{parts_value, AreWithinLimits, AreAccepted, IsProgramFault};
+ghost use Rattle.fold_program.specs.Faults.{AreWithinLimits, AreAccepted, IsProgramFault};
 ghost use Rattle.fold_program.specs.declared.fault.ProgramFault.TheVariants as refused;
 ghost use Rattle.fold_program.specs.Bounds.{AreBoundCosts, IsCostRefusal, scan, crossed_at, fault_at, cost_magnitude};
 
@@ -28,8 +28,8 @@ impl Program {
     /// `ProgramFault`. Entries of the two matrices are within `2^31 - 1`; bounds, right sides and the numbers of the
     /// costs are within `2^62`.
     pub fn new(alloc: Global, parts: Parts) -> Result<Program, ProgramFault>
-        requires limits { AreWithinLimits (parts_value parts) }
-        ensures made { IfOk result (λ p. p ≡ program_of (parts_value parts)) }
+        requires limits { AreWithinLimits parts }
+        ensures made { IfOk result (λ p. p ≡ program_of parts) }
         ensures accepted { OnOk result (AreAccepted parts) }
         ensures program { IfOk result IsProgram }
         ensures refused { IfErr result (IsProgramFault parts) }
@@ -69,8 +69,8 @@ impl Program {
 
 /// The first part whose shape does not fit those before it.
 fn first_misshaped(parts: &Parts) -> Option<FileKind>
-    ensures first { result ≡ misshaped (parts_value parts.now) }
-    ensures even { IfNone result (AreEven (parts_value parts.now)) }
+    ensures first { result ≡ misshaped parts.now }
+    ensures even { IfNone result (AreEven parts.now) }
 {
     let (r, t) = (parts.link.rows(), parts.link.cols());
     let (s, n) = (parts.brick.rows(), parts.lower.rows());

@@ -6,7 +6,7 @@ ghost use Rattle.lattice_theory.specs.BasisLimits.{IsNarrow};
 ghost use Rattle.convex_costs.specs.Bounds.{AreBounded};
 ghost use Rattle.fold_program.specs.Points.{HasPointShape};
 ghost use Rattle.lattice_theory.specs.Vectors.{IsBoundedRow};
-ghost use Rattle.fold_program.specs.Faults.{parts_value, AreWithinLimits};
+ghost use Rattle.fold_program.specs.Faults.{AreWithinLimits};
 
 use crate::{Broken, Cost, CostFault, FileKind, Parts, Point, Program, ProgramFault, Relation};
 use mat_files::Matrix;
@@ -54,7 +54,7 @@ fn parts_with(
     requires low { IsBoundedRow lower }
     requires high { IsBoundedRow upper }
     requires numbers { All AreBounded costs.items }
-    ensures limits { IfOk result (λ p. AreWithinLimits (parts_value p)) }
+    ensures limits { IfOk result AreWithinLimits }
 {
     Ok(Parts {
         link: first_column(alloc)?,

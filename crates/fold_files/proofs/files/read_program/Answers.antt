@@ -6,7 +6,7 @@ use Rattle.fold_shelf.specs.Outside.{ForTold, OnlyReads}
 use Rattle.fold_shelf.proofs.Counts.{reads_then}
 use Rattle.fold_program.specs.declared.FileKind.TheVariants as file
 use Rattle.fold_program.specs.declared.Parts.{Parts}
-use Rattle.fold_program.specs.Parts.{PartsValue, program_of, related}
+use Rattle.fold_program.specs.Parts.{program_of, related}
 use Rattle.fold_files.specs.Reading.{shaped, exactly, matrix_of, relations_of, costs_of}
 use Rattle.fold_files.specs.Faults.{whole_fault}
 use Rattle.fold_files.proofs.CauseLaws.{of_error, read_as, refused_as}
@@ -243,14 +243,14 @@ returns-in_err-costs-clause-refused g c =
 -- ---- the program that they make
 
 -- the parts that were read
-abbrev read_parts : (g : _) → In_ok-costs g → PartsValue
+abbrev read_parts : (g : _) → In_ok-costs g → Parts
 read_parts g c = record {
   link = c.in_ok-link.link;
   brick = c.in_ok-brick.brick;
   lower = c.in_ok-lower.lower;
   upper = c.in_ok-upper.upper;
   right = c.in_ok-right.right;
-  costs = c.in_ok-costs.costs.items;
+  costs = c.in_ok-costs.costs;
 }
 
 -- they have the shapes that were asked for
@@ -277,16 +277,8 @@ pub returns-in_err-program-clause-refused : goal.returns-in_err-program-clause-r
 returns-in_err-program-clause-refused g c =
     let past = goal.at.returns-in_err-program-clause-refused g c in
     let fault = c.in_err-program.field-0.0 in
-    let parts : Parts = record {
-      link = c.in_ok-link.link;
-      brick = c.in_ok-brick.brick;
-      lower = c.in_ok-lower.lower;
-      upper = c.in_ok-upper.upper;
-      right = c.in_ok-right.right;
-      costs = c.in_ok-costs.costs;
-    } in
     let cause = program_refused (g.S.Shelf.seen c.args.shelf.now) (g.S.Shelf.seen c.read_costs.new.shelf)
-    c.args.prefix.now c.in_ok-relations.relations.items parts
+    c.args.prefix.now c.in_ok-relations.relations.items (read_parts g past.In_ok-costs)
     (none_misshaped _ (parts_shaped g past.In_ok-costs)) fault c.in_err-program.ensures.refused in
     of_error c.from_residual-in_err-program.result (whole_fault fault) _ c.from_residual-in_err-program.ensures.1
     (whole_refused (g.S.Shelf.seen c.args.shelf.now) (g.S.Shelf.seen c.read_costs.new.shelf) c.args.prefix.now
@@ -310,4 +302,4 @@ returns-clause-program g c =
     (link_told g past.In_ok-link) (brick_told g past.In_ok-brick) (lower_told g past.In_ok-lower)
     (upper_told g past.In_ok-upper)
     (right_told g past.In_ok-right) (relations_told g past.In_ok-relations) (costs_told g past.In_ok-costs)
-    (accepted_whole relations parts c.in_ok-program.ensures.accepted.1 ∙ ap Ok (sym is))
+    (accepted_whole (related relations (program_of parts)) c.in_ok-program.ensures.accepted.1 ∙ ap Ok (sym is))

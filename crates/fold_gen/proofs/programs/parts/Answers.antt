@@ -2,7 +2,6 @@ use Rattle.std.proofs.Common.{◌≡◌, ◌∙◌, ◌*◌, ◌+◌, sym, ap, s
 use Rattle.std.proofs.lemmas.List.Elements.{All-replicate}
 use Rattle.lattice_theory.specs.Vectors.{Vector, is_bounded, IsBoundedRow}
 use Rattle.lattice_theory.specs.Matrices.{Matrix}
-use Rattle.fold_program.specs.Faults.{parts_value}
 use Rattle.fold_program.proofs.PointLaws.{bounded_rows, length-rows_of}
 use Rattle.fold_gen.proofs.TransportLaws.{length-uppers, length-costs, program_made}
 use Rattle.fold_gen.proofs.AcceptedLaws.{well_shaped}
@@ -35,7 +34,7 @@ returns-clause-program c =
 pub returns-clause-shaped : goal.returns-clause-shaped
 returns-clause-shaped c =
     let n = length c.args.customers.now in
-    well_shaped (parts_value (record { link = c.in_ok-link.link; brick = c.in_ok-brick.brick; lower = c.new.result; upper = c.new-2.result; right = c.new-3.result; costs = c.in_ok-costs.costs })) n
+    well_shaped (record { link = c.in_ok-link.link; brick = c.in_ok-brick.brick; lower = c.new.result; upper = c.new-2.result; right = c.new-3.result; costs = c.in_ok-costs.costs }) n
     c.requires.some c.requires.few c.in_ok-link.ensures.links c.in_ok-brick.ensures.shares
     (ap (λ (m : Matrix). length m.rows) c.new.ensures ∙ length-rows_of n 3 c.in_ok-lower.lower.items) (ap (λ (m : Matrix). m.cols) c.new.ensures)
     (ap (λ (m : Matrix). length m.rows) c.new-2.ensures ∙ length-rows_of n 3 c.in_ok-upper.upper.items) (ap (λ (m : Matrix). m.cols) c.new-2.ensures)

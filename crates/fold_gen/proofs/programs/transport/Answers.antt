@@ -2,7 +2,6 @@ use Rattle.std.proofs.Common.{arith, ◌≡◌, ◌≤◌, ◌∙◌, sym, ap, s
 use Rattle.fold_theory.specs.Programs.{Program, Bricks, IsFeasible}
 use Rattle.fold_program.specs.declared.fault.ProgramFault.TheVariants.{Memory}
 use Rattle.fold_program.specs.Parts.{program_of}
-use Rattle.fold_program.specs.Faults.{parts_value}
 use Rattle.fold_program.specs.Refusals.{program_refusal}
 use Rattle.fold_gen.specs.Draws.{customers}
 use Rattle.fold_gen.specs.Transports.{transport, transport_of}
@@ -35,7 +34,7 @@ pub prove-unreachable-requires : goal.prove-unreachable-requires
 prove-unreachable-requires c =
     let drawn = c.deref.ensures.value ∙ c.in_ok-customers.ensures in
     let few : length (customers c.args.bricks c.args.number) ≤ 10000 = omega (arith, length-customers c.args.bricks c.args.number) in
-    let accepted : program_refusal (program_of (parts_value c.in_ok-parts.parts)) ≡ None =
+    let accepted : program_refusal (program_of c.in_ok-parts.parts) ≡ None =
     ap program_refusal (c.in_ok-parts.ensures.program ∙ ap transport_of drawn)
     ∙ not_refused (customers c.args.bricks c.args.number) (all_small c.args.bricks c.args.number) few in
     let only : c.in-Err.fault ≡ Memory = no_fault c.in_ok-parts.parts c.in-Err.fault c.in_ok-parts.ensures.shaped accepted c.in-Err.ensures.refused in

@@ -3,39 +3,38 @@ use Rattle.std.proofs.lemmas.Result.{err_from_is_err_and}
 use Rattle.lattice_theory.specs.Vectors.{Vector, IsBoundedRow}
 use Rattle.fold_theory.specs.declared.Cost.{Cost}
 use Rattle.fold_theory.specs.Programs.{IsProgram}
-use Rattle.fold_program.specs.Parts.{program_of, related}
-use Rattle.fold_program.specs.Faults.{parts_value}
+use Rattle.fold_program.specs.Parts.{program_of, fold_of}
 use Rattle.fold_program.specs.Bounds.{cost_magnitude}
 use Rattle.fold_program.proofs.PartsLaws.{bounded_flat, lowers_are, uppers_are, few_costs, refused_crossed, is_program_fault, refused_sum, small_sum, accepted, is_program, is_related, is_kept}
 use Rattle.fold_program.proofs.program.Program.new.Goals as goal
 
 pub first_crossed-requires : goal.first_crossed-requires
 first_crossed-requires c =
-    ap length c.entries.ensures ∙ lowers_are (parts_value c.args.parts) c.in_default.ensures.first c.in_default.ensures.even ∙ sym (ap length c.entries-2.ensures ∙ uppers_are (parts_value c.args.parts) c.in_default.ensures.first c.in_default.ensures.even)
+    ap length c.entries.ensures ∙ lowers_are c.args.parts c.in_default.ensures.first c.in_default.ensures.even ∙ sym (ap length c.entries-2.ensures ∙ uppers_are c.args.parts c.in_default.ensures.first c.in_default.ensures.even)
 
 pub of-brick-requires-clause-few : goal.of-brick-requires-clause-few
 of-brick-requires-clause-few c =
-    let lowers = ap length c.entries.ensures ∙ lowers_are (parts_value c.args.parts) c.in_default.ensures.first c.in_default.ensures.even in
-    let few = few_costs (parts_value c.args.parts) c.in_default.ensures.first c.in_default.ensures.even in
+    let lowers = ap length c.entries.ensures ∙ lowers_are c.args.parts c.in_default.ensures.first c.in_default.ensures.even in
+    let few = few_costs c.args.parts c.in_default.ensures.first c.in_default.ensures.even in
     omega (arith, lowers, few, c.in-Some-first_crossed.ensures.inside)
 
 pub returns-in-Some-first_crossed-clause-refused : goal.returns-in-Some-first_crossed-clause-refused
 returns-in-Some-first_crossed-clause-refused c =
     let first = rw (c.cols-cols.ensures.cols, c.entries.ensures, c.entries-2.ensures) at c.in-Some-first_crossed.ensures.first in
-    let refused = refused_crossed (parts_value c.args.parts) c.in_default.ensures.first c.in_default.ensures.even _ first in
+    let refused = refused_crossed c.args.parts c.in_default.ensures.first c.in_default.ensures.even _ first in
     (sym c.in_default.ensures.first, rw (c.of-brick.ensures.brick, c.of-brick.ensures.col, c.cols-cols.ensures.cols) refused)
 
 pub bound_costs-requires-clause-lowers : goal.bound_costs-requires-clause-lowers
 bound_costs-requires-clause-lowers c =
-    ap length c.entries-3.ensures ∙ lowers_are (parts_value c.args.parts) c.in_default.ensures.first c.in_default.ensures.even
+    ap length c.entries-3.ensures ∙ lowers_are c.args.parts c.in_default.ensures.first c.in_default.ensures.even
 
 pub bound_costs-requires-clause-uppers : goal.bound_costs-requires-clause-uppers
 bound_costs-requires-clause-uppers c =
-    ap length c.entries-4.ensures ∙ uppers_are (parts_value c.args.parts) c.in_default.ensures.first c.in_default.ensures.even
+    ap length c.entries-4.ensures ∙ uppers_are c.args.parts c.in_default.ensures.first c.in_default.ensures.even
 
 pub bound_costs-requires-clause-few : goal.bound_costs-requires-clause-few
 bound_costs-requires-clause-few c =
-    few_costs (parts_value c.args.parts) c.in_default.ensures.first c.in_default.ensures.even
+    few_costs c.args.parts c.in_default.ensures.first c.in_default.ensures.even
 
 pub bound_costs-requires-clause-low : goal.bound_costs-requires-clause-low
 bound_costs-requires-clause-low c =
@@ -58,13 +57,13 @@ returns-then-total_magnitude-gt-LARGEST-clause-refused c =
     let faultless = rw (c.cols-cols.ensures.cols, c.entries-3.ensures, c.entries-4.ensures) at c.in_ok-costs.ensures.none in
     let bound = rw (c.entries-3.ensures, c.entries-4.ensures) at c.in_ok-costs.ensures.bound in
     let large : 2 ^ 120 < min (sum_by cost_magnitude c.in_ok-costs.costs.items) (2 ^ 128 - 1) = rw (sym c.deref.ensures.value, sym c.total_magnitude.ensures) c.if-total_magnitude-gt-LARGEST.true in
-    (sym c.in_default.ensures.first, refused_sum (parts_value c.args.parts) c.in_default.ensures.first c.in_default.ensures.even c.in_ok-costs.costs.items bound large none faultless)
+    (sym c.in_default.ensures.first, refused_sum c.args.parts c.in_default.ensures.first c.in_default.ensures.even c.in_ok-costs.costs.items bound large none faultless)
 
 pub invariant_of-result : goal.invariant_of-result
 invariant_of-result c =
     let bound = rw (c.entries-3.ensures, c.entries-4.ensures) at c.in_ok-costs.ensures.bound in
     let small : min (sum_by cost_magnitude c.in_ok-costs.costs.items) (2 ^ 128 - 1) ≤ 2 ^ 120 = rw (sym c.deref.ensures.value, sym c.total_magnitude.ensures) c.if-total_magnitude-gt-LARGEST.false in
-    is_kept (parts_value c.args.parts) c.in_default.ensures.first c.in_default.ensures.even c.requires.limits c.in_ok-costs.costs.items bound small c.in_ok-relations.relations.items
+    is_kept c.args.parts c.in_default.ensures.first c.in_default.ensures.even c.requires.limits c.in_ok-costs.costs bound small c.in_ok-relations.relations
     (omega (arith, c.in_ok-relations.ensures.len, c.rows.ensures))
 
 pub returns-clause-accepted : goal.returns-clause-accepted
@@ -73,13 +72,14 @@ returns-clause-accepted c =
     let faultless = rw (c.cols-cols.ensures.cols, c.entries-3.ensures, c.entries-4.ensures) at c.in_ok-costs.ensures.none in
     let bound = rw (c.entries-3.ensures, c.entries-4.ensures) at c.in_ok-costs.ensures.bound in
     let small : min (sum_by cost_magnitude c.in_ok-costs.costs.items) (2 ^ 128 - 1) ≤ 2 ^ 120 = rw (sym c.deref.ensures.value, sym c.total_magnitude.ensures) c.if-total_magnitude-gt-LARGEST.false in
-    let total = small_sum (parts_value c.args.parts) c.in_default.ensures.first c.in_default.ensures.even c.in_ok-costs.costs.items bound small in
-    (sym c.in_default.ensures.first, accepted (parts_value c.args.parts) c.in_default.ensures.first c.in_default.ensures.even c.in_ok-costs.costs.items bound total none faultless)
+    let total = small_sum c.args.parts c.in_default.ensures.first c.in_default.ensures.even c.in_ok-costs.costs.items bound small in
+    (sym c.in_default.ensures.first, accepted c.args.parts c.in_default.ensures.first c.in_default.ensures.even c.in_ok-costs.costs.items bound total none faultless)
 
 pub returns-clause-program : goal.returns-clause-program
 returns-clause-program c =
     let bound = rw (c.entries-3.ensures, c.entries-4.ensures) at c.in_ok-costs.ensures.bound in
-    let program = is_program (parts_value c.args.parts) c.in_default.ensures.first c.in_default.ensures.even c.in_ok-costs.costs.items bound in
-    subst (λ (costs : List Cost). IsProgram (related c.in_ok-relations.relations.items (program_of (record { link = c.args.parts.link; brick = c.args.parts.brick; lower = c.args.parts.lower; upper = c.args.parts.upper; right = c.args.parts.right; costs = costs }))))
-    (sym bound.costs_are) (is_related (program_of (parts_value c.args.parts)) c.in_ok-relations.relations.items program
+    let program = is_program c.args.parts c.in_default.ensures.first c.in_default.ensures.even c.in_ok-costs.costs.items bound in
+    subst (λ (costs : List Cost). IsProgram (fold_of c.args.parts.link c.args.parts.brick c.args.parts.lower c.args.parts.upper c.args.parts.right
+    c.in_ok-relations.relations.items costs))
+    (sym bound.costs_are) (is_related (program_of c.args.parts) c.in_ok-relations.relations.items program
     (omega (arith, c.in_ok-relations.ensures.len, c.rows.ensures)))
