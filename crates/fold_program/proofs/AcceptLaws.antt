@@ -1,5 +1,7 @@
 -- Parts that are accepted make a program.
-use Rattle.std.proofs.Common.{◌≡◌, ℕ, zero, suc, ◌+◌, ◌*◌, ◌≤◌, ℤ, ◌≤ℤ◌, nat_eq, Bool, true, false, not, List, [], ◌∷◌, ◌++◌, length, map, take, drop, refl, ap, arith, sym, ◌∙◌, Option, Some, None, cond, length-append, length-take, sum_by, subst}
+use Rattle.std.proofs.Common.{◌≡◌, ℕ, zero, suc, ◌+◌, ◌*◌, ◌≤◌, ℤ, ◌≤ℤ◌, nat_eq, Bool, true, false, not, List, [], ◌∷◌}
+use Rattle.std.proofs.Common.{◌++◌, length, map, take, drop, refl, ap, arith, sym, ◌∙◌, Option, Some, None, cond}
+use Rattle.std.proofs.Common.{length-append, length-take, sum_by, subst}
 use Rattle.std.specs.List.{AllZip, AllByRecursion}
 use Rattle.std.proofs.lemmas.Bool.Decides.{nat_tests}
 use Rattle.std.proofs.lemmas.List.{take-append-drop, length-drop, take-map, drop-map}
@@ -50,7 +52,8 @@ is_in_shape a b c d m h = record {
   cols_to = grind (arith, nat_tests);
 }
 
-passed : (b : Bool) (kind : FileKind) (rest : Option FileKind) → cond (not b) (Some kind) rest ≡ None → (b ≡ true) × (rest ≡ None)
+passed : (b : Bool) (kind : FileKind) (rest : Option FileKind) → cond (not b) (Some kind) rest ≡ None →
+    (b ≡ true) × (rest ≡ None)
 passed true kind rest e = (refl, e)
 passed false kind rest e = absurd (cc)
 
@@ -91,7 +94,8 @@ shaped_from_none p e =
     }
 
 -- all entries of rows of one width
-pub length-flat : (t : ℕ) (rows : List Vector) → AllByRecursion (λ row. length row ≡ t) rows → length (flat rows) ≡ length rows * t
+pub length-flat : (t : ℕ) (rows : List Vector) → AllByRecursion (λ row. length row ≡ t) rows →
+    length (flat rows) ≡ length rows * t
 length-flat t [] even = omega arith
 length-flat t (row ∷ rows) even =
     let here : length row ≡ t = even.0 in
@@ -102,7 +106,8 @@ length-flat t (row ∷ rows) even =
 
 module _ {A B : Type 0} where
   -- a map that gives one list after another, taken apart
-  pub map_parts : (f : A → B) (xs : List A) (ys zs : List B) → map f xs ≡ ys ++ zs → (map f (take (length ys) xs) ≡ ys) × (map f (drop (length ys) xs) ≡ zs)
+  pub map_parts : (f : A → B) (xs : List A) (ys zs : List B) → map f xs ≡ ys ++ zs →
+      (map f (take (length ys) xs) ≡ ys) × (map f (drop (length ys) xs) ≡ zs)
   map_parts f xs [] zs e = (refl, e)
   map_parts f [] (y ∷ ys) zs e = absurd (cc)
   map_parts f (x ∷ xs) (y ∷ ys) zs e =
@@ -111,19 +116,24 @@ module _ {A B : Type 0} where
       let rest = map_parts f xs ys zs tail in
       (λ i. head i ∷ rest.0 i, rest.1)
 
-uncrossed_all : (cs : List BoundedCost) → AllByRecursion IsGood cs → AllZip ◌≤ℤ◌ (map (λ c. c.lower) cs) (map (λ c. c.upper) cs)
+uncrossed_all : (cs : List BoundedCost) → AllByRecursion IsGood cs →
+    AllZip ◌≤ℤ◌ (map (λ c. c.lower) cs) (map (λ c. c.upper) cs)
 uncrossed_all [] good = tt
 uncrossed_all (c ∷ cs) good = (good.0.uncrossed, uncrossed_all cs good.1)
 
 convex_all : (cs : List BoundedCost) → AllByRecursion IsGood cs →
-    AllZip {A = Cost} {B = ℤ × ℤ} (λ c bounds. IsConvexOn (value c) bounds.0 bounds.1) (map (λ c. c.cost) cs) (zip_with (λ l u. (l, u)) (map (λ c. c.lower) cs) (map (λ c. c.upper) cs))
+    AllZip {A = Cost} {B = ℤ × ℤ} (λ c bounds. IsConvexOn (value c) bounds.0 bounds.1) (map (λ c. c.cost) cs)
+    (zip_with (λ l u. (l, u)) (map (λ c. c.lower) cs) (map (λ c. c.upper) cs))
 convex_all [] good = tt
 convex_all (c ∷ cs) good = (good.0.convex, convex_all cs good.1)
 
-pub magnitudes_all : (cs : List BoundedCost) → sum_by (λ m. m) (magnitudes (map (λ c. c.cost) cs) (map (λ c. c.lower) cs) (map (λ c. c.upper) cs)) ≡ sum_by cost_magnitude cs
+pub magnitudes_all : (cs : List BoundedCost) →
+    sum_by (λ m. m) (magnitudes (map (λ c. c.cost) cs) (map (λ c. c.lower) cs) (map (λ c. c.upper) cs))
+    ≡ sum_by cost_magnitude cs
 magnitudes_all [] = refl
 magnitudes_all (c ∷ cs) =
-    sum_by-cons (λ m. m) (cost_magnitude c) (magnitudes (map (λ d. d.cost) cs) (map (λ d. d.lower) cs) (map (λ d. d.upper) cs))
+    sum_by-cons (λ m. m) (cost_magnitude c)
+    (magnitudes (map (λ d. d.cost) cs) (map (λ d. d.lower) cs) (map (λ d. d.upper) cs))
     ∙ ap (λ n. cost_magnitude c + n) (magnitudes_all cs)
     ∙ sym (sum_by-cons cost_magnitude c cs)
 
@@ -131,7 +141,8 @@ sum_by-append : {A : Type 0} → (f : A → ℕ) (xs ys : List A) → sum_by f (
 sum_by-append f [] ys = omega arith
 sum_by-append f (x ∷ xs) ys = omega (arith, sum_by-cons f x (xs ++ ys), sum_by-cons f x xs, sum_by-append f xs ys)
 
-good_parts : (n : ℕ) (cs : List BoundedCost) → AllByRecursion IsGood cs → AllByRecursion IsGood (take n cs) × AllByRecursion IsGood (drop n cs)
+good_parts : (n : ℕ) (cs : List BoundedCost) → AllByRecursion IsGood cs →
+    AllByRecursion IsGood (take n cs) × AllByRecursion IsGood (drop n cs)
 good_parts zero cs good = (tt, good)
 good_parts (suc n) [] good = (tt, tt)
 good_parts (suc n) (c ∷ cs) good =
@@ -143,7 +154,8 @@ length-map f (x ∷ xs) = ap suc (length-map f xs)
 
 -- costs with good bounds make bricks that fit
 pub bricks_fit : (t s : ℕ) (lower upper : List Vector) (right : Vector) (cs : List BoundedCost) →
-    AllByRecursion (λ row. length row ≡ t) lower → AllByRecursion (λ row. length row ≡ t) upper → length upper ≡ length lower → length right ≡ length lower * s →
+    AllByRecursion (λ row. length row ≡ t) lower → AllByRecursion (λ row. length row ≡ t) upper →
+    length upper ≡ length lower → length right ≡ length lower * s →
     map (λ c. c.lower) cs ≡ flat lower → map (λ c. c.upper) cs ≡ flat upper → AllByRecursion IsGood cs →
     AllByRecursion (IsBrick t s) (bricks_from t s lower upper right (map (λ c. c.cost) cs))
 bricks_fit t s [] upper right cs low high same size lowers uppers good = tt
@@ -154,23 +166,34 @@ bricks_fit t s (l ∷ lower) (u ∷ upper) right cs low high same size lowers up
     let ls = rw width at (map_parts (λ (c : BoundedCost). c.lower) cs l (flat lower) lowers) in
     let us = rw wide at (map_parts (λ (c : BoundedCost). c.upper) cs u (flat upper) uppers) in
     let parts = good_parts t cs good in
-    let costs : take t (map (λ (c : BoundedCost). c.cost) cs) ≡ map (λ (c : BoundedCost). c.cost) (take t cs) = take-map (λ (c : BoundedCost). c.cost) t cs in
-    let left : drop t (map (λ (c : BoundedCost). c.cost) cs) ≡ map (λ (c : BoundedCost). c.cost) (drop t cs) = drop-map (λ (c : BoundedCost). c.cost) t cs in
+    let costs : take t (map (λ (c : BoundedCost). c.cost) cs) ≡ map (λ (c : BoundedCost). c.cost) (take t cs) =
+    take-map (λ (c : BoundedCost). c.cost) t cs in
+    let left : drop t (map (λ (c : BoundedCost). c.cost) cs) ≡ map (λ (c : BoundedCost). c.cost) (drop t cs) =
+    drop-map (λ (c : BoundedCost). c.cost) t cs in
     let some : length (map (λ (c : BoundedCost). c.lower) (take t cs)) ≡ t = ap length ls.0 ∙ width in
-    let brick : IsBrick t s (record { lower = l; upper = u; right = take s right; costs = take t (map (λ (c : BoundedCost). c.cost) cs) }) = record {
+    let brick : IsBrick t s
+    (record { lower = l; upper = u; right = take s right; costs = take t (map (λ (c : BoundedCost). c.cost) cs) }) =
+    record {
       lower_size = width;
       upper_size = wide;
       right_size = simp length-take (omega arith);
       uncrossed = rw (sym ls.0, sym us.0) (uncrossed_all (take t cs) parts.0);
-      costs_size = ap length costs ∙ length-map (λ (c : BoundedCost). c.cost) (take t cs) ∙ sym (length-map (λ (c : BoundedCost). c.lower) (take t cs)) ∙ some;
+      costs_size =
+          ap length costs ∙ length-map (λ (c : BoundedCost). c.cost) (take t cs)
+          ∙ sym (length-map (λ (c : BoundedCost). c.lower) (take t cs)) ∙ some;
       convex = rw (costs, sym ls.0, sym us.0) (convex_all (take t cs) parts.0);
     } in
-    let rest = bricks_fit t s lower upper (drop s right) (drop t cs) low.1 high.1 (omega arith) (simp length-drop (omega arith)) ls.1 us.1 parts.1 in
-    (brick, subst (λ (rs : List Cost). AllByRecursion (IsBrick t s) (bricks_from t s lower upper (drop s right) rs)) (sym left) rest)
+    let rest = bricks_fit t s lower upper (drop s right) (drop t cs) low.1 high.1 (omega arith)
+    (simp length-drop (omega arith)) ls.1 us.1 parts.1 in (
+      brick,
+      subst (λ (rs : List Cost). AllByRecursion (IsBrick t s) (bricks_from t s lower upper (drop s right) rs))
+          (sym left) rest,
+    )
 
 -- the magnitudes of all bricks are those of all costs
 pub bricks_weigh : (t s : ℕ) (lower upper : List Vector) (right : Vector) (cs : List BoundedCost) →
-    AllByRecursion (λ row. length row ≡ t) lower → AllByRecursion (λ row. length row ≡ t) upper → length upper ≡ length lower →
+    AllByRecursion (λ row. length row ≡ t) lower → AllByRecursion (λ row. length row ≡ t) upper →
+    length upper ≡ length lower →
     map (λ c. c.lower) cs ≡ flat lower → map (λ c. c.upper) cs ≡ flat upper →
     sum_by brick_magnitude (bricks_from t s lower upper right (map (λ c. c.cost) cs)) ≡ sum_by cost_magnitude cs
 bricks_weigh t s [] upper right [] low high same lowers uppers = refl
@@ -181,14 +204,22 @@ bricks_weigh t s (l ∷ lower) (u ∷ upper) right cs low high same lowers upper
     let wide : length u ≡ t = high.0 in
     let ls = rw width at (map_parts (λ (c : BoundedCost). c.lower) cs l (flat lower) lowers) in
     let us = rw wide at (map_parts (λ (c : BoundedCost). c.upper) cs u (flat upper) uppers) in
-    let costs : take t (map (λ (c : BoundedCost). c.cost) cs) ≡ map (λ (c : BoundedCost). c.cost) (take t cs) = take-map (λ (c : BoundedCost). c.cost) t cs in
-    let left : drop t (map (λ (c : BoundedCost). c.cost) cs) ≡ map (λ (c : BoundedCost). c.cost) (drop t cs) = drop-map (λ (c : BoundedCost). c.cost) t cs in
-    let here : brick_magnitude (record { lower = l; upper = u; right = take s right; costs = take t (map (λ (c : BoundedCost). c.cost) cs) }) ≡ sum_by cost_magnitude (take t cs) =
+    let costs : take t (map (λ (c : BoundedCost). c.cost) cs) ≡ map (λ (c : BoundedCost). c.cost) (take t cs) =
+    take-map (λ (c : BoundedCost). c.cost) t cs in
+    let left : drop t (map (λ (c : BoundedCost). c.cost) cs) ≡ map (λ (c : BoundedCost). c.cost) (drop t cs) =
+    drop-map (λ (c : BoundedCost). c.cost) t cs in
+    let here : brick_magnitude
+    (record { lower = l; upper = u; right = take s right; costs = take t (map (λ (c : BoundedCost). c.cost) cs) })
+    ≡ sum_by cost_magnitude (take t cs) =
     rw (costs, sym ls.0, sym us.0) (magnitudes_all (take t cs)) in
     let rest = bricks_weigh t s lower upper (drop s right) (drop t cs) low.1 high.1 (omega arith) ls.1 us.1 in
-    sum_by-cons brick_magnitude (record { lower = l; upper = u; right = take s right; costs = take t (map (λ (c : BoundedCost). c.cost) cs) }) (bricks_from t s lower upper (drop s right) (drop t (map (λ (c : BoundedCost). c.cost) cs)))
-    ∙ ap (λ n. n + sum_by brick_magnitude (bricks_from t s lower upper (drop s right) (drop t (map (λ (c : BoundedCost). c.cost) cs)))) here
-    ∙ ap (λ rs. sum_by cost_magnitude (take t cs) + sum_by brick_magnitude (bricks_from t s lower upper (drop s right) rs)) left
+    sum_by-cons brick_magnitude
+    (record { lower = l; upper = u; right = take s right; costs = take t (map (λ (c : BoundedCost). c.cost) cs) })
+    (bricks_from t s lower upper (drop s right) (drop t (map (λ (c : BoundedCost). c.cost) cs)))
+    ∙ ap (λ n. n + sum_by brick_magnitude
+    (bricks_from t s lower upper (drop s right) (drop t (map (λ (c : BoundedCost). c.cost) cs)))) here
+    ∙ ap (λ rs. sum_by cost_magnitude (take t cs) + sum_by brick_magnitude
+    (bricks_from t s lower upper (drop s right) rs)) left
     ∙ ap (λ n. sum_by cost_magnitude (take t cs) + n) rest
     ∙ sym (sum_by-append cost_magnitude (take t cs) (drop t cs))
     ∙ ap (λ xs. sum_by cost_magnitude xs) (take-append-drop t cs)

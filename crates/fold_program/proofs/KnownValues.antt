@@ -38,7 +38,8 @@ parts_with lower upper costs = record {
 -- the program of such parts
 abbrev program_with : List Vector → List Vector → List Cost → Program
 program_with lower upper costs =
-    fold_of (columns (two (pos 1) (pos 0) ∷ [])) (columns (two (pos 1) (pos 1) ∷ [])) (columns lower) (columns upper) the_rights (Equal ∷ []) costs
+    fold_of (columns (two (pos 1) (pos 0) ∷ [])) (columns (two (pos 1) (pos 1) ∷ [])) (columns lower)
+    (columns upper) the_rights (Equal ∷ []) costs
 
 abbrev zeros : List Vector
 zeros = two (pos 0) (pos 0) ∷ two (pos 0) (pos 0) ∷ []
@@ -63,7 +64,8 @@ its_program = refl
 fits : (costs : Vec Cost) → length costs.items ≡ 4 → first_misshaped (parts_with zeros fours costs) ≡ None
 fits costs four = rw four refl
 
-a_cost_short : (costs : Vec Cost) → length costs.items ≡ 3 → first_misshaped (parts_with zeros fours costs) ≡ Some file.Costs
+a_cost_short : (costs : Vec Cost) → length costs.items ≡ 3 →
+    first_misshaped (parts_with zeros fours costs) ≡ Some file.Costs
 a_cost_short costs three = rw three refl
 
 accepted : program_refusal (program_with zeros fours the_costs) ≡ None
@@ -74,23 +76,34 @@ row_short : (costs : Vec Cost) → first_misshaped (parts_with zeros (two (pos 4
 row_short costs = refl
 
 -- 3 above 2 in the first column of the second brick; crossed bounds come before costs
-crossed : program_refusal (program_with (two (pos 0) (pos 0) ∷ two (pos 3) (pos 0) ∷ []) (two (pos 4) (pos 4) ∷ two (pos 2) (pos 4) ∷ []) (falling ∷ the_costs)) ≡ Some (fault.CrossedBounds 2 1)
+crossed : program_refusal
+    (program_with (two (pos 0) (pos 0) ∷ two (pos 3) (pos 0) ∷ []) (two (pos 4) (pos 4) ∷ two (pos 2) (pos 4) ∷ [])
+    (falling ∷ the_costs)) ≡ Some (fault.CrossedBounds 2 1)
 crossed = refl
 
 -- of two bad costs the first counts
-bad_cost : program_refusal (program_with zeros fours (square ∷ falling ∷ falling ∷ free ∷ [])) ≡ Some (fault.Cost 1 2 (NotConvex 0))
+bad_cost : program_refusal (program_with zeros fours (square ∷ falling ∷ falling ∷ free ∷ []))
+    ≡ Some (fault.Cost 1 2 (NotConvex 0))
 bad_cost = refl
 
 -- the largest magnitude once, and twice
-one_largest : program_refusal (program_with zeros (two (pos (2 ^ 30)) (pos 4) ∷ two (pos 4) (pos 4) ∷ []) (largest ∷ free ∷ free ∷ free ∷ [])) ≡ None
+one_largest : program_refusal
+    (program_with zeros (two (pos (2 ^ 30)) (pos 4) ∷ two (pos 4) (pos 4) ∷ []) (largest ∷ free ∷ free ∷ free ∷ []))
+    ≡ None
 one_largest = refl
 
-two_largest : program_refusal (program_with zeros (two (pos (2 ^ 30)) (pos 4) ∷ two (pos 4) (pos (2 ^ 30)) ∷ []) (largest ∷ free ∷ free ∷ largest ∷ [])) ≡ Some fault.CostSumTooLarge
+two_largest : program_refusal
+    (program_with zeros (two (pos (2 ^ 30)) (pos 4) ∷ two (pos 4) (pos (2 ^ 30)) ∷ [])
+    (largest ∷ free ∷ free ∷ largest ∷ [])) ≡ Some fault.CostSumTooLarge
 two_largest = refl
 
 -- the last letters of each name
-suffixes : map suffix_of (file.Link ∷ file.Brick ∷ file.Lower ∷ file.Upper ∷ file.Right ∷ file.Relations ∷ file.Costs ∷ file.Point ∷ file.Cert ∷ file.Plain ∷ [])
-    ≡ (46 ∷ 108 ∷ 105 ∷ 110 ∷ 107 ∷ 46 ∷ 109 ∷ 97 ∷ 116 ∷ []) ∷ (46 ∷ 98 ∷ 114 ∷ 105 ∷ 99 ∷ 107 ∷ 46 ∷ 109 ∷ 97 ∷ 116 ∷ [])
-    ∷ (46 ∷ 108 ∷ 98 ∷ []) ∷ (46 ∷ 117 ∷ 98 ∷ []) ∷ (46 ∷ 114 ∷ 104 ∷ 115 ∷ []) ∷ (46 ∷ 114 ∷ 101 ∷ 108 ∷ []) ∷ (46 ∷ 99 ∷ 111 ∷ 115 ∷ 116 ∷ [])
-    ∷ (46 ∷ 112 ∷ 116 ∷ []) ∷ (46 ∷ 99 ∷ 101 ∷ 114 ∷ 116 ∷ []) ∷ (46 ∷ 109 ∷ 97 ∷ 116 ∷ []) ∷ []
+suffixes : map suffix_of
+    (file.Link ∷ file.Brick ∷ file.Lower ∷ file.Upper ∷ file.Right ∷ file.Relations ∷ file.Costs ∷ file.Point
+    ∷ file.Cert ∷ file.Plain ∷ [])
+    ≡ (46 ∷ 108 ∷ 105 ∷ 110 ∷ 107 ∷ 46 ∷ 109 ∷ 97 ∷ 116 ∷ [])
+    ∷ (46 ∷ 98 ∷ 114 ∷ 105 ∷ 99 ∷ 107 ∷ 46 ∷ 109 ∷ 97 ∷ 116 ∷ [])
+    ∷ (46 ∷ 108 ∷ 98 ∷ []) ∷ (46 ∷ 117 ∷ 98 ∷ []) ∷ (46 ∷ 114 ∷ 104 ∷ 115 ∷ []) ∷ (46 ∷ 114 ∷ 101 ∷ 108 ∷ [])
+    ∷ (46 ∷ 99 ∷ 111 ∷ 115 ∷ 116 ∷ []) ∷ (46 ∷ 112 ∷ 116 ∷ []) ∷ (46 ∷ 99 ∷ 101 ∷ 114 ∷ 116 ∷ [])
+    ∷ (46 ∷ 109 ∷ 97 ∷ 116 ∷ []) ∷ []
 suffixes = refl

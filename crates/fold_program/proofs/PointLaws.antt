@@ -1,5 +1,7 @@
 -- Points, row by row.
-use Rattle.std.proofs.Common.{◌≡◌, ℕ, zero, suc, ◌*◌, ◌^◌, ◌≤◌, ℤ, ◌≤ℤ◌, unsigned_abs, true, false, inl, inr, IsTrue, All, List, [], ◌∷◌, ◌++◌, length, take, drop, refl, ap, arith, sym, ◌∙◌, subst, length-take}
+use Rattle.std.proofs.Common.{◌≡◌, ℕ, zero, suc, ◌*◌, ◌^◌, ◌≤◌, ℤ, ◌≤ℤ◌, unsigned_abs, true, false, inl, inr, IsTrue}
+use Rattle.std.proofs.Common.{All, List, [], ◌∷◌, ◌++◌, length, take, drop, refl, ap, arith, sym, ◌∙◌, subst}
+use Rattle.std.proofs.Common.{length-take}
 use Rattle.std.specs.List.{AllZip, AllByRecursion}
 use Rattle.std.proofs.lemmas.Int.{ints}
 use Rattle.std.proofs.lemmas.Bool.Decides.{nat_tests}
@@ -14,10 +16,12 @@ use Rattle.fold_program.proofs.ScanLaws.{flat}
 use Rattle.fold_program.proofs.PartsLaws.{bounded_flat}
 
 -- rows of entries within the limit are within it
-pub bounded_rows : (n cols : ℕ) (entries : Vector) → All (λ a. IsTrue (is_bounded a)) entries → All IsBoundedRow (rows_of n cols entries)
+pub bounded_rows : (n cols : ℕ) (entries : Vector) → All (λ a. IsTrue (is_bounded a)) entries →
+    All IsBoundedRow (rows_of n cols entries)
 bounded_rows zero cols entries h = All-nil IsBoundedRow
 bounded_rows (suc n) cols entries h =
-    All-cons IsBoundedRow (take cols entries) (rows_of n cols (drop cols entries)) (All-take (λ a. IsTrue (is_bounded a)) cols entries h)
+    All-cons IsBoundedRow (take cols entries) (rows_of n cols (drop cols entries))
+    (All-take (λ a. IsTrue (is_bounded a)) cols entries h)
     (bounded_rows n cols (drop cols entries) (All-drop (λ a. IsTrue (is_bounded a)) cols entries h))
 
 -- there are as many rows as were asked for
@@ -26,12 +30,14 @@ length-rows_of zero cols entries = refl
 length-rows_of (suc n) cols entries = ap suc (length-rows_of n cols (drop cols entries))
 
 -- and each has an entry for each column
-even_rows : (n cols : ℕ) (entries : Vector) → length entries ≡ n * cols → All (λ v. length v ≡ cols) (rows_of n cols entries)
+even_rows : (n cols : ℕ) (entries : Vector) → length entries ≡ n * cols →
+    All (λ v. length v ≡ cols) (rows_of n cols entries)
 even_rows zero cols entries e = All-nil (λ v. length v ≡ cols)
 even_rows (suc n) cols entries e =
     let width : length (take cols entries) ≡ cols = simp length-take (omega arith) in
     let left : length (drop cols entries) ≡ n * cols = simp length-drop (omega arith) in
-    All-cons (λ v. length v ≡ cols) (take cols entries) (rows_of n cols (drop cols entries)) width (even_rows n cols (drop cols entries) left)
+    All-cons (λ v. length v ≡ cols) (take cols entries) (rows_of n cols (drop cols entries)) width
+    (even_rows n cols (drop cols entries) left)
 
 -- a point made from entries has the shape of its program
 pub point_shape : (p : Program) (entries : Vector) (x : Bricks) → IsPoint p entries x → HasPointShape p x
@@ -54,7 +60,8 @@ between_bounded l a u low high above below =
     large : (x : ℤ) → unsigned_abs x ≤ 2 ^ 62 → is_bounded x ≡ true
     large x h = grind (arith, nat_tests)
 
-pub vector_bounded : (lower v upper : Vector) → AllByRecursion (λ a. IsTrue (is_bounded a)) lower → AllByRecursion (λ a. IsTrue (is_bounded a)) upper →
+pub vector_bounded : (lower v upper : Vector) → AllByRecursion (λ a. IsTrue (is_bounded a)) lower →
+    AllByRecursion (λ a. IsTrue (is_bounded a)) upper →
     AllZip ◌≤ℤ◌ lower v → AllZip ◌≤ℤ◌ v upper → IsBoundedRow v
 vector_bounded lower [] upper low high above below = All-nil (λ a. IsTrue (is_bounded a))
 vector_bounded [] (a ∷ v) upper low high above below = absurd above
@@ -70,7 +77,8 @@ point_bounded (b ∷ bs) [] sides within = absurd within
 point_bounded (b ∷ bs) (v ∷ x) sides within =
     let low = recursion_from_All (λ a. IsTrue (is_bounded a)) b.lower sides.0.0 in
     let high = recursion_from_All (λ a. IsTrue (is_bounded a)) b.upper sides.0.1 in
-    All-cons IsBoundedRow v x (vector_bounded b.lower v b.upper low high within.0.0 within.0.1) (point_bounded bs x sides.1 within.1)
+    All-cons IsBoundedRow v x (vector_bounded b.lower v b.upper low high within.0.0 within.0.1)
+    (point_bounded bs x sides.1 within.1)
 
 -- the entries of all rows are the entries that they were made from
 flat-rows_of : (n cols : ℕ) (entries : Vector) → length entries ≡ n * cols → flat (rows_of n cols entries) ≡ entries
@@ -78,21 +86,27 @@ flat-rows_of zero cols [] e = refl
 flat-rows_of zero cols (a ∷ entries) e = absurd (omega arith)
 flat-rows_of (suc n) cols entries e =
     let left : length (drop cols entries) ≡ n * cols = simp length-drop (omega arith) in
-    ap (λ rest. take cols entries ++ rest) (flat-rows_of n cols (drop cols entries) left) ∙ take-append-drop cols entries
+    ap (λ rest. take cols entries ++ rest) (flat-rows_of n cols (drop cols entries) left)
+    ∙ take-append-drop cols entries
 
 -- entries within the bounds of a program are within the limit
-pub entries_bounded : (p : Program) (entries : Vector) → All HasBoundedSides p.bricks → length entries ≡ length p.bricks * p.link.cols →
+pub entries_bounded : (p : Program) (entries : Vector) → All HasBoundedSides p.bricks →
+    length entries ≡ length p.bricks * p.link.cols →
     AreWithin p.bricks (rows_of (length p.bricks) p.link.cols entries) → IsBoundedRow entries
 entries_bounded p entries sides size within =
-    let rows = point_bounded p.bricks (rows_of (length p.bricks) p.link.cols entries) (recursion_from_All HasBoundedSides p.bricks sides) within in
-    subst IsBoundedRow (flat-rows_of (length p.bricks) p.link.cols entries size) (bounded_flat (rows_of (length p.bricks) p.link.cols entries) rows)
+    let rows = point_bounded p.bricks (rows_of (length p.bricks) p.link.cols entries)
+    (recursion_from_All HasBoundedSides p.bricks sides) within in
+    subst IsBoundedRow (flat-rows_of (length p.bricks) p.link.cols entries size)
+    (bounded_flat (rows_of (length p.bricks) p.link.cols entries) rows)
 
 -- so they make a point
-pub within_is_point : (p : Program) (entries : Vector) → All HasBoundedSides p.bricks → IsNoPoint p entries → length entries ≡ length p.bricks * p.link.cols →
+pub within_is_point : (p : Program) (entries : Vector) → All HasBoundedSides p.bricks → IsNoPoint p entries →
+    length entries ≡ length p.bricks * p.link.cols →
     AreWithin p.bricks (rows_of (length p.bricks) p.link.cols entries) → ⊥
 within_is_point p entries sides (inl wrong) size within = wrong size
 within_is_point p entries sides (inr (a, there, large)) size within =
-    let small : is_bounded a ≡ true = All-contains (λ b. IsTrue (is_bounded b)) entries a (entries_bounded p entries sides size within) there in
+    let small : is_bounded a ≡ true =
+    All-contains (λ b. IsTrue (is_bounded b)) entries a (entries_bounded p entries sides size within) there in
     differ (sym small ∙ large)
   where
     differ : true ≡ false → ⊥

@@ -1,5 +1,6 @@
 -- Sums over the bricks of a point, brick by brick.
-use Rattle.std.proofs.Common.{◌≡◌, ℕ, zero, suc, ◌+◌, ◌-◌, ◌≤◌, ℤ, pos, ◌+ℤ◌, List, [], ◌∷◌, length, drop, map, ap, arith, Some, slice_get}
+use Rattle.std.proofs.Common.{◌≡◌, ℕ, zero, suc, ◌+◌, ◌-◌, ◌≤◌, ℤ, pos, ◌+ℤ◌, List, [], ◌∷◌, length, drop, map, ap}
+use Rattle.std.proofs.Common.{arith, Some, slice_get}
 use Rattle.std.proofs.lemmas.List.{drop_all}
 use Rattle.lattice_theory.specs.Lists.{zip_with, total}
 use Rattle.lattice_theory.specs.Vectors.{Vector, dot}
@@ -21,7 +22,8 @@ pub products_end : (i : ℕ) (w : Vector) (x : Bricks) → length x ≤ i → pr
 products_end i w x all = ap (λ (y : Bricks). total (map (dot w) y)) (drop_all (i + 1 - 1) x (omega arith))
 
 module _ {A B C : Type 0} where
-  pub zip_with-at : (f : A → B → C) (xs : List A) (ys : List B) (i : ℕ) (x : A) (y : B) → slice_get xs i ≡ Some x → slice_get ys i ≡ Some y →
+  pub zip_with-at : (f : A → B → C) (xs : List A) (ys : List B) (i : ℕ) (x : A) (y : B) → slice_get xs i ≡ Some x →
+      slice_get ys i ≡ Some y →
       slice_get (zip_with f xs ys) i ≡ Some (f x y)
   zip_with-at f [] ys i x y first second = absurd (cc)
   zip_with-at f (a ∷ xs) [] i x y first second = absurd (cc)

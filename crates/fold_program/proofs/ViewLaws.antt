@@ -1,5 +1,6 @@
 -- What contracts see of what a program keeps.
-use Rattle.std.proofs.Common.{◌≡◌, ℕ, ℤ, ◌+◌, ◌-◌, ◌*◌, ◌<◌, ◌≤◌, length, take, drop, ap, arith, sym, ◌∙◌, Option, Some, None, IfSome, slice_get, map, subst, List, [], ◌∷◌, zero, suc, refl, flat_map, All}
+use Rattle.std.proofs.Common.{◌≡◌, ℕ, ℤ, ◌+◌, ◌-◌, ◌*◌, ◌<◌, ◌≤◌, length, take, drop, ap, arith, sym, ◌∙◌, Option, Some}
+use Rattle.std.proofs.Common.{None, IfSome, slice_get, map, subst, List, [], ◌∷◌, zero, suc, refl, flat_map, All}
 use Rattle.std.proofs.lemmas.List.{append-nil, drop-drop}
 use Rattle.std.proofs.Math.Nat.{mul-le-mul_right}
 use Rattle.lattice_theory.specs.Vectors.{Vector}
@@ -12,11 +13,13 @@ use Rattle.fold_program.proofs.BrickLaws.{length_bricks_from, bricks_bounded, br
 
 pub bricks_are : (p : Inside) (q : Program) → IsKept p → kept_program p ≡ q → length q.bricks ≡ length p.lower.rows
 bricks_are p q kept view =
-    sym (ap (λ (v : Program). length v.bricks) view) ∙ length_bricks_from _ _ p.lower.rows p.upper.rows _ _ kept.upper_rows
+    sym (ap (λ (v : Program). length v.bricks) view)
+    ∙ length_bricks_from _ _ p.lower.rows p.upper.rows _ _ kept.upper_rows
 
 pub sides_are_bounded : (p : Inside) (q : Program) → IsKept p → kept_program p ≡ q → All HasBoundedSides q.bricks
 sides_are_bounded p q kept view =
-    subst (λ (v : Program). All HasBoundedSides v.bricks) view (bricks_bounded _ _ p.lower.rows p.upper.rows _ _ kept.lower_bounded kept.upper_bounded)
+    subst (λ (v : Program). All HasBoundedSides v.bricks) view
+    (bricks_bounded _ _ p.lower.rows p.upper.rows _ _ kept.lower_bounded kept.upper_bounded)
 
 pub links_are : (p : Inside) (q : Program) → IsKept p → kept_program p ≡ q → q.link ≡ p.link
 links_are p q kept view = sym (ap (λ (v : Program). v.link) view)
@@ -27,7 +30,8 @@ brick_rows_are p q kept view = sym (ap (λ (v : Program). v.brick) view)
 -- what is true of the brick at place i
 abbrev pub IsKeptBrick : Inside → ℕ → Brick → Type 0
 IsKeptBrick p i b =
-    IsBrickOf p.link.cols (length p.brick.rows) p.lower.rows p.upper.rows (drop (length p.link.rows) (all_entries p.right)) (map (λ c. c.cost) p.costs.items) i b
+    IsBrickOf p.link.cols (length p.brick.rows) p.lower.rows p.upper.rows
+    (drop (length p.link.rows) (all_entries p.right)) (map (λ c. c.cost) p.costs.items) i b
 
 pub brick_at : (p : Inside) (q : Program) (i : ℕ) → IsKept p → kept_program p ≡ q → i < length q.bricks →
     (b : Brick) × (slice_get q.bricks i ≡ Some b) × IsKeptBrick p i b
@@ -39,7 +43,8 @@ pub same_some : {A : Type 0} → (a b : A) → Some a ≡ Some b → a ≡ b
 same_some a b e = cc
 
 -- an entry of a row that is there
-pub entry_of : (o : Option Vector) (row : Vector) (j : ℕ) (a : ℤ) → o ≡ Some row → IfSome o (λ entries. slice_get entries j ≡ Some a) → slice_get row j ≡ Some a
+pub entry_of : (o : Option Vector) (row : Vector) (j : ℕ) (a : ℤ) → o ≡ Some row →
+    IfSome o (λ entries. slice_get entries j ≡ Some a) → slice_get row j ≡ Some a
 entry_of None row j a e h = absurd (cc)
 entry_of (Some r) row j a e h = let s : r ≡ row = same_some r row e in ap (λ (v : Vector). slice_get v j) (sym s) ∙ h
 
@@ -50,13 +55,15 @@ slice_get-take (suc n) (x ∷ xs) zero inside = refl
 slice_get-take (suc n) (x ∷ xs) (suc i) inside = slice_get-take n xs i (omega arith)
 
 -- the entries of a matrix of one row are that row
-pub one_row : (rows : List Vector) (row : Vector) → length rows ≡ 1 → slice_get rows 0 ≡ Some row → flat_map (λ r. r) rows ≡ row
+pub one_row : (rows : List Vector) (row : Vector) → length rows ≡ 1 → slice_get rows 0 ≡ Some row →
+    flat_map (λ r. r) rows ≡ row
 one_row [] row one there = absurd (cc)
 one_row (x ∷ []) row one there = append-nil x ∙ same_some x row there
 one_row (x ∷ y ∷ rows) row one there = absurd (omega arith)
 
 -- the right sides of the brick at place i, among all right sides
-pub right_part : (rows : List Vector) (row now : Vector) (r s i : ℕ) → length rows ≡ 1 → slice_get rows 0 ≡ Some row → now ≡ row →
+pub right_part : (rows : List Vector) (row now : Vector) (r s i : ℕ) → length rows ≡ 1 → slice_get rows 0 ≡ Some row →
+    now ≡ row →
     take (r + i * s + s - (r + i * s)) (drop (r + i * s) now) ≡ take s (drop (i * s) (drop r (flat_map (λ x. x) rows)))
 right_part rows row now r s i one there same =
     let width : r + i * s + s - (r + i * s) ≡ s = omega arith in

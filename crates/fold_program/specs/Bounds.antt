@@ -1,13 +1,15 @@
 -- The costs of a program with their bounds, one after the other.
-use Rattle.std.specs.Prelude.{◌≡◌, ℕ, suc, ◌+◌, ◌/◌, ◌%◌, ℤ, ◌≤ℤ◌, int_lt, List, [], ◌∷◌, ◌++◌, map, cond, None, All, Some}
+use Rattle.std.specs.Prelude.{◌≡◌, ℕ, ◌+◌, ◌/◌, ◌%◌, pos, ◌≤ℤ◌, ◌<ℤ◌, List, map, take, get_or, slice_get, None, All}
+use Rattle.std.specs.Prelude.{Some}
+use Rattle.std.specs.List.{AllZip}
 use Rattle.lattice_theory.specs.Vectors.{Vector}
 use Rattle.fold_theory.specs.declared.Cost.{Cost}
 use Rattle.fold_theory.specs.Costs.{BoundedCost, value, magnitude, IsConvexOn}
 use Rattle.fold_theory.specs.Programs.{Brick}
+use Rattle.convex_costs.specs.declared.CostFault.{CostFault}
 use Rattle.convex_costs.specs.Faults.{cost_fault}
 use Rattle.fold_program.specs.declared.fault.ProgramFault.{ProgramFault}
 use Rattle.fold_program.specs.declared.fault.ProgramFault.TheVariants as fault
-use Rattle.fold_program.specs.Refusals.{refusal_of, head_of}
 
 abbrev pub cost_magnitude : BoundedCost → ℕ
 cost_magnitude c = magnitude c.cost c.lower c.upper
@@ -31,21 +33,22 @@ pub record AreBoundCosts (costs : List Cost) (lower upper : Vector) (cs : List B
   pub upper_is : map (λ c. c.upper) cs ≡ upper
   pub good : All IsGood cs
 
--- what is refused of each element, by its place from k on, one after the other
-abbrev pub scan : {A : Type 0} → (ℕ → A → List ProgramFault) → ℕ → List A → List ProgramFault
-scan f k [] = []
-scan f k (a ∷ rest) = f k a ++ scan f (suc k) rest
+-- the bounds at this place, from 0, are the first that are crossed
+pub record IsFirstCrossed (lower upper : Vector) (at : ℕ) : Type 0 where
+  pub before : AllZip ◌≤ℤ◌ (take at lower) (take at upper)
+  pub crossed : get_or upper at (pos 0) <ℤ get_or lower at (pos 0)
 
--- the bounds at place k, where each brick has t columns, are crossed
-abbrev pub crossed_at : ℕ → ℕ → ℤ × ℤ → List ProgramFault
-crossed_at t k bounds = cond (int_lt bounds.1 bounds.0) (fault.CrossedBounds (k / t + 1) (k % t + 1) ∷ []) []
+-- the cost at this place, from 0, is refused with this fault, and is the first that is refused
+pub record IsFirstRefused (costs : List Cost) (lower upper : Vector) (at : ℕ) (f : CostFault) : Type 0 where
+  pub before : (cs : List BoundedCost) × AreBoundCosts (take at costs) (take at lower) (take at upper) cs
+  pub cost : Cost
+  pub there : slice_get costs at ≡ Some cost
+  pub refused : cost_fault cost (get_or lower at (pos 0)) (get_or upper at (pos 0)) ≡ Some f
 
--- the cost at place k is refused over its bounds
-abbrev pub fault_at : ℕ → ℕ → Cost × (ℤ × ℤ) → List ProgramFault
-fault_at t k c = refusal_of (k / t + 1) (k % t + 1) (cost_fault c.0 c.1.0 c.1.1)
-
--- the fault is that of the first cost that is refused; want of memory may come at any time
-abbrev pub IsCostRefusal : List ProgramFault → ProgramFault → Type 0
-IsCostRefusal refusals (fault.Cost i j f) = head_of refusals ≡ Some (fault.Cost i j f)
-IsCostRefusal refusals fault.Memory = Unit {0}
-IsCostRefusal refusals f = ⊥
+-- the fault is that of the first cost that is refused, where each brick has t columns; want of memory may come at any
+-- time
+abbrev pub IsCostRefusal : ℕ → List Cost → Vector → Vector → ProgramFault → Type 0
+IsCostRefusal t costs lower upper (fault.Cost i j f) =
+    (at : ℕ) × (i ≡ at / t + 1) × (j ≡ at % t + 1) × IsFirstRefused costs lower upper at f
+IsCostRefusal t costs lower upper fault.Memory = Unit {0}
+IsCostRefusal t costs lower upper f = ⊥

@@ -18,7 +18,8 @@ pub record AreWithinLimits (p : Parts) : Type 0 where
   pub right : All IsBoundedRow p.right.rows
   pub costs : All AreBounded p.costs.items
 
--- the first part that is misshaped, or else the first refusal of the program that the parts make; want of memory may come
+-- the first part that is misshaped, or else the first refusal of the program that the parts make; want of memory may
+-- come
 -- at any time
 abbrev pub IsProgramFault : Parts → ProgramFault → Type 0
 IsProgramFault p (fault.Shape kind) = first_misshaped p ≡ Some kind

@@ -11,7 +11,8 @@ use Rattle.fold_program.specs.Refusals.{total_magnitude}
 abbrev pub kept_program : Inside → Program
 kept_program p = fold_of p.link p.brick p.lower p.upper p.right p.relations.items (map (λ c. c.cost) p.costs.items)
 
--- the sizes of the parts and of their entries are within their limits, the costs stand with the bounds of their columns, and
+-- the sizes of the parts and of their entries are within their limits, the costs stand with the bounds of their
+-- columns, and
 -- the whole is a program
 pub record IsKept (p : Inside) : Type 0 where
   pub link_rows : length p.link.rows ≤ 16

@@ -13,13 +13,15 @@ abbrev pub bricks_from : ℕ → ℕ → List Vector → List Vector → Vector 
 bricks_from t s [] upper right costs = []
 bricks_from t s (l ∷ lower) [] right costs = []
 bricks_from t s (l ∷ lower) (u ∷ upper) right costs =
-    record { lower = l; upper = u; right = take s right; costs = take t costs } ∷ bricks_from t s lower upper (drop s right) (drop t costs)
+    record { lower = l; upper = u; right = take s right; costs = take t costs } ∷ bricks_from t s lower upper
+    (drop s right) (drop t costs)
 
 -- the entries of a matrix, row by row
 abbrev pub all_entries : Matrix → Vector
 all_entries m = flat_map (λ row. row) m.rows
 
--- the program of the linking matrix, the matrix of all bricks, the lower and the upper bounds with a row for each brick, the
+-- the program of the linking matrix, the matrix of all bricks, the lower and the upper bounds with a row for each
+-- brick, the
 -- right sides, those of the linking rows and then those of the bricks, the relations, and the costs brick by brick
 abbrev pub fold_of : (link brick lower upper right : Matrix) → List Relation → List Cost → Program
 fold_of link brick lower upper right relations costs =

@@ -21,7 +21,8 @@ HasBoundedSides b = IsBoundedRow b.lower × IsBoundedRow b.upper
 abbrev pub OfColumn : Program → ℕ → ℕ → (ℤ → ℤ → Cost → Type 0) → Type 0
 OfColumn p i j P =
     (b : Brick) × (lower : ℤ) × (upper : ℤ) × (cost : Cost) × (slice_get p.bricks (i - 1) ≡ Some b)
-    × (slice_get b.lower (j - 1) ≡ Some lower) × (slice_get b.upper (j - 1) ≡ Some upper) × (slice_get b.costs (j - 1) ≡ Some cost)
+    × (slice_get b.lower (j - 1) ≡ Some lower) × (slice_get b.upper (j - 1) ≡ Some upper) × (slice_get b.costs (j - 1)
+    ≡ Some cost)
     × P lower upper cost
 
 -- there is a linking row of this number, and this holds of its relation

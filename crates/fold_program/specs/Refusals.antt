@@ -1,5 +1,6 @@
 -- Why parts make no program: the first part whose shape is wrong, and else the first refusal of the program as a whole.
-use Rattle.std.specs.Prelude.{ℕ, suc, ◌+◌, ◌*◌, ◌^◌, int_lt, nat_eq, nat_lt, nat_le, Bool, ◌&&◌, not, List, [], ◌∷◌, ◌++◌, length, sum_by, cond, Option, Some, None}
+use Rattle.std.specs.Prelude.{ℕ, suc, ◌+◌, ◌*◌, ◌^◌, int_lt, nat_eq, nat_lt, nat_le, Bool, ◌&&◌, not, List, [], ◌∷◌}
+use Rattle.std.specs.Prelude.{◌++◌, length, sum_by, cond, Option, Some, None}
 use Rattle.lattice_theory.specs.Vectors.{Vector}
 use Rattle.lattice_theory.specs.Matrices.{Matrix}
 use Rattle.fold_theory.specs.declared.Cost.{Cost}
@@ -16,7 +17,8 @@ use Rattle.fold_program.specs.declared.parts.Parts.{Parts}
 -- a number of rows and of columns in these ranges
 abbrev pub in_shape : ℕ → ℕ → ℕ → ℕ → Matrix → Bool
 in_shape rows_from rows_to cols_from cols_to m =
-    nat_le rows_from (length m.rows) && nat_le (length m.rows) rows_to && nat_le cols_from m.cols && nat_le m.cols cols_to
+    nat_le rows_from (length m.rows) && nat_le (length m.rows) rows_to && nat_le cols_from m.cols && nat_le m.cols
+    cols_to
 
 -- the first part whose shape is wrong, each tested against those before it
 abbrev pub first_misshaped : Parts → Option FileKind
@@ -40,7 +42,8 @@ head_of (r ∷ rs) = Some r
 abbrev pub crossed_in : ℕ → ℕ → Vector → Vector → List ProgramFault
 crossed_in i j [] upper = []
 crossed_in i j (l ∷ lower) [] = []
-crossed_in i j (l ∷ lower) (u ∷ upper) = cond (int_lt u l) (fault.CrossedBounds i j ∷ []) [] ++ crossed_in i (suc j) lower upper
+crossed_in i j (l ∷ lower) (u ∷ upper) =
+    cond (int_lt u l) (fault.CrossedBounds i j ∷ []) [] ++ crossed_in i (suc j) lower upper
 
 abbrev pub refusal_of : ℕ → ℕ → Option CostFault → List ProgramFault
 refusal_of i j None = []
@@ -51,7 +54,8 @@ abbrev pub cost_faults_in : ℕ → ℕ → List Cost → Vector → Vector → 
 cost_faults_in i j [] lower upper = []
 cost_faults_in i j (c ∷ cs) [] upper = []
 cost_faults_in i j (c ∷ cs) (l ∷ lower) [] = []
-cost_faults_in i j (c ∷ cs) (l ∷ lower) (u ∷ upper) = refusal_of i j (cost_fault c l u) ++ cost_faults_in i (suc j) cs lower upper
+cost_faults_in i j (c ∷ cs) (l ∷ lower) (u ∷ upper) =
+    refusal_of i j (cost_fault c l u) ++ cost_faults_in i (suc j) cs lower upper
 
 -- f of each brick and its number, from number i on
 abbrev pub of_each : (ℕ → Brick → List ProgramFault) → ℕ → List Brick → List ProgramFault

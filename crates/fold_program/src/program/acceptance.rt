@@ -2,15 +2,14 @@
 
 ghost use Rattle.std.specs.Prelude.{◌≡◌, ◌≤◌, ◌<◌, ◌+◌, ◌*◌, ◌/◌, ◌%◌, ◌^◌, ◌-◌, ◌≤ℤ◌, None, Some, [], IfOk, IfErr};
 ghost use Rattle.std.specs.Prelude.{OnOk, IfSome, IfNone, MatchOption, length, map, sum_by, min, All, IsTrue};
-ghost use Rattle.std.specs.List.{AllZip, zip};
+ghost use Rattle.std.specs.List.{AllZip};
 ghost use Rattle.fold_theory.specs.Programs.{IsProgram};
 ghost use Rattle.convex_costs.specs.Bounds.{AreBounded};
 ghost use Rattle.fold_program.specs.Parts.{program_of, IsEven, AreEven};
-ghost use Rattle.fold_program.specs.Refusals.{first_misshaped as misshaped, in_shape as is_in_shape, head_of};
+ghost use Rattle.fold_program.specs.Refusals.{first_misshaped as misshaped, in_shape as is_in_shape};
 ghost use Rattle.lattice_theory.specs.Vectors.{IsBoundedRow};
 ghost use Rattle.fold_program.specs.Faults.{AreWithinLimits, AreAccepted, IsProgramFault};
-ghost use Rattle.fold_program.specs.declared.fault.ProgramFault.TheVariants as refused;
-ghost use Rattle.fold_program.specs.Bounds.{AreBoundCosts, IsCostRefusal, scan, crossed_at, fault_at, cost_magnitude};
+ghost use Rattle.fold_program.specs.Bounds.{AreBoundCosts, IsFirstCrossed, IsCostRefusal, cost_magnitude};
 
 use crate::fault::{FileKind, ProgramFault};
 use crate::parts::Parts;
@@ -46,7 +45,7 @@ impl Program {
             costs,
         } = parts;
         let cols = link.cols();
-        if let Some(at) = first_crossed(cols, lower.entries(), upper.entries()) {
+        if let Some(at) = first_crossed(lower.entries(), upper.entries()) {
             let Place { brick, col } = Place::of(at, cols);
             return Err(ProgramFault::CrossedBounds { brick, col });
         }
@@ -128,13 +127,11 @@ impl Place {
 }
 
 /// The first place, from 0, at which the lower bound is above the upper one.
-fn first_crossed(cols: u32, lower: &[i64], upper: &[i64]) -> Option<usize>
+fn first_crossed(lower: &[i64], upper: &[i64]) -> Option<usize>
     requires { length lower.now ≡ length upper.now }
     ensures inside { IfSome result (λ at. at < length lower.now) }
-    ensures none { IfNone result ((AllZip ◌≤ℤ◌ lower.now upper.now) × (scan (crossed_at cols) 0
-        (zip lower.now upper.now) ≡ [])) }
-    ensures first { IfSome result (λ at. head_of (scan (crossed_at cols) 0 (zip lower.now upper.now)) ≡ Some
-        (refused.CrossedBounds (at / cols + 1) (at % cols + 1))) }
+    ensures first { IfSome result (IsFirstCrossed lower.now upper.now) }
+    ensures none { IfNone result (AllZip ◌≤ℤ◌ lower.now upper.now) }
 {
     for (at, low) in lower.iter().enumerate() {
         if upper[at] < *low {
@@ -161,9 +158,7 @@ fn bound_costs(
     requires high { IsBoundedRow upper.now }
     requires order { AllZip ◌≤ℤ◌ lower.now upper.now }
     ensures bound { IfOk result (λ cs. AreBoundCosts costs.items lower.now upper.now cs.items) }
-    ensures none { OnOk result (scan (fault_at cols) 0 (zip costs.items (zip lower.now upper.now)) ≡ []) }
-    ensures refused { IfErr result (IsCostRefusal (scan (fault_at cols) 0 (zip costs.items
-        (zip lower.now upper.now)))) }
+    ensures refused { IfErr result (IsCostRefusal cols costs.items lower.now upper.now) }
 {
     let mut bound = Vec::new(alloc);
     for cost in costs {

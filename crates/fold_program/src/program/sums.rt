@@ -1,6 +1,7 @@
 //! What a point costs, what it leaves and misses of the linking rows, and the widest bounds.
 
-ghost use Rattle.std.specs.Prelude.{◌≡◌, ◌≤◌, ◌-◌, ◌^◌, ◌-ℤ◌, ◌≤ℤ◌, Some, All, IfOk, length, map, sum_by, slice_get, unsigned_abs};
+ghost use Rattle.std.specs.Prelude.{◌≡◌, ◌≤◌, ◌-◌, ◌^◌, ◌-ℤ◌, ◌≤ℤ◌, Some, All, IfOk, length, map, sum_by};
+ghost use Rattle.std.specs.Prelude.{slice_get, unsigned_abs};
 ghost use Rattle.std.specs.List.{AllZip};
 ghost use Rattle.lattice_theory.specs.Lists.{greatest, zip_with, sum_zip};
 ghost use Rattle.fold_theory.specs.Costs.{value, magnitude};
@@ -36,8 +37,8 @@ impl Program {
         rest
     }
 
-    /// The rests of all linking rows, in order, each at most `2^113` in absolute value. An error comes only where memory
-    /// runs out.
+    /// The rests of all linking rows, in order, each at most `2^113` in absolute value. An error comes only where
+    /// memory runs out.
     pub fn rests(&self, alloc: Global, p: &Point) -> Result<Vec<i128>, AllocError>
         requires shape { HasPointShape self.now p.now }
         ensures rests { IfOk result (λ rests. rests.items ≡ link_rests self.now p.now) }

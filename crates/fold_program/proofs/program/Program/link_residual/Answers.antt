@@ -7,22 +7,27 @@ use Rattle.fold_program.proofs.program.Program.link_residual.Goals as goal
 use Rattle.fold_program.proofs.program.Program.link_residual.Goals.{After-missed-residual}
 
 -- what this row misses
-here : (c : After-missed-residual) → slice_get (link_misses c.args.self.now (link_rests c.args.self.now c.args.p.now)) (c.loop-row.row - 1) ≡ Some c.missed-residual.result
+here : (c : After-missed-residual) →
+    slice_get (link_misses c.args.self.now (link_rests c.args.self.now c.args.p.now)) (c.loop-row.row - 1)
+    ≡ Some c.missed-residual.result
 here c =
     let fits : FitsSigned w128 c.rest.result = search rules in
     let missed = simp to_z-of_z at c.missed-residual.ensures.missed in
-    miss_there c.args.self.now (link_rests c.args.self.now c.args.p.now) c.loop-row.row c.rest.result c.missed-residual.result missed c.rest.ensures.rest
+    miss_there c.args.self.now (link_rests c.args.self.now c.args.p.now) c.loop-row.row c.rest.result
+    c.missed-residual.result missed c.rest.ensures.rest
 
 -- is small
 small : (c : After-missed-residual) → c.missed-residual.result ≤ 2 ^ 113
 small c =
     let fits : FitsSigned w128 c.rest.result = search rules in
-    let less : c.missed-residual.result ≤ unsigned_abs c.rest.result = simp to_z-of_z at c.missed-residual.ensures.small in
+    let less : c.missed-residual.result ≤ unsigned_abs c.rest.result =
+    simp to_z-of_z at c.missed-residual.ensures.small in
     omega (arith, less, c.rest.ensures.small)
 
 pub loop-row-preserved : goal.loop-row-preserved
 loop-row-preserved c =
-    let step = misses_step (link_misses c.args.self.now (link_rests c.args.self.now c.args.p.now)) c.loop-row.row c.missed-residual.result c.loop-row.invariant.from (here c.before) in
+    let step = misses_step (link_misses c.args.self.now (link_rests c.args.self.now c.args.p.now)) c.loop-row.row
+    c.missed-residual.result c.loop-row.invariant.from (here c.before) in
     record {
       from = omega arith;
       to = omega (arith, c.loop-row-test.true, c.r-row-end.ensures.to);
@@ -33,7 +38,14 @@ loop-row-preserved c =
 pub returns-clause-residual : goal.returns-clause-residual
 returns-clause-residual c =
     let misses = link_misses c.args.self.now (link_rests c.args.self.now c.args.p.now) in
-    let few : length misses ≤ c.loop-row.row - 1 = omega (arith, few_misses c.args.self.now c.args.p.now, c.r-row-end.ensures.rows, c.loop-row-test.false, c.loop-row.auto.row-end) in
+    let few : length misses ≤ c.loop-row.row - 1 =
+    omega (
+      arith,
+      few_misses c.args.self.now c.args.p.now,
+      c.r-row-end.ensures.rows,
+      c.loop-row-test.false,
+      c.loop-row.auto.row-end,
+    ) in
     omega (arith, misses_none misses c.loop-row.row few, c.loop-row.invariant.so_far)
 
 pub returns-clause-small : goal.returns-clause-small
@@ -43,5 +55,6 @@ pub returns-2-clause-residual : goal.returns-2-clause-residual
 returns-2-clause-residual c =
     let misses = link_misses c.args.self.now (link_rests c.args.self.now c.args.p.now) in
     let step = misses_step misses c.loop-row.row c.missed-residual.result c.loop-row.invariant.from (here c.before) in
-    let few : length misses ≤ c.loop-row.row = omega (arith, few_misses c.args.self.now c.args.p.now, c.r-row-end.ensures.rows) in
+    let few : length misses ≤ c.loop-row.row =
+    omega (arith, few_misses c.args.self.now c.args.p.now, c.r-row-end.ensures.rows) in
     omega (arith, step, misses_end misses c.loop-row.row few, c.loop-row.invariant.so_far)

@@ -6,6 +6,7 @@ abbrev pub invariant-loop-row : goal.invariant-loop-row
 invariant-loop-row l = record {
   from : 1 ≤ l.row;
   to : l.row ≤ 17;
-  so_far : l.residual + sum (drop (l.row - 1) (link_misses l.self (link_rests l.self l.p))) ≡ link_miss l.self (link_rests l.self l.p);
+  so_far : l.residual + sum (drop (l.row - 1) (link_misses l.self (link_rests l.self l.p)))
+      ≡ link_miss l.self (link_rests l.self l.p);
   small : l.residual ≤ 2 ^ 113 * (l.row - 1);
 }

@@ -9,6 +9,7 @@ entry-requires-clause-to c =
 
 pub returns : goal.returns
 returns c =
-    let b = brick_at _ _ (c.args.brick - 1) c.self.invariant c.self.view_is (omega (arith, c.requires.from, c.requires.to)) in
+    let b = brick_at _ _ (c.args.brick - 1) c.self.invariant c.self.view_is
+    (omega (arith, c.requires.from, c.requires.to)) in
     let fits : FitsSigned w64 c.entry.result = search rules in
     simp to_z-of_z (b.0, b.1, entry_of _ _ _ _ b.2.lower_is c.entry.ensures)

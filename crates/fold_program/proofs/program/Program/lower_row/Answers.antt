@@ -8,5 +8,6 @@ row-requires-clause-to c =
 
 pub returns-clause-bounds : goal.returns-clause-bounds
 returns-clause-bounds c =
-    let b = brick_at _ _ (c.args.brick - 1) c.self.invariant c.self.view_is (omega (arith, c.requires.from, c.requires.to)) in
+    let b = brick_at _ _ (c.args.brick - 1) c.self.invariant c.self.view_is
+    (omega (arith, c.requires.from, c.requires.to)) in
     (b.0, b.1, same_some _ _ (sym c.row.ensures.entries ∙ b.2.lower_is))

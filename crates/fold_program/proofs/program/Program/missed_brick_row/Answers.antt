@@ -11,14 +11,24 @@ use Rattle.fold_program.proofs.program.Program.missed_brick_row.Goals.{After-mis
 
 -- what this brick and those after it miss
 step : (c : After-missed_row_of) →
-    first_of (row_breaks (BrickRow c.loop-brick.brick) 1 (map unsigned_abs (sub c.right_row-right.result.now (product c.self.inside.brick c.brick.result.now)))
-    ++ over_bricks (λ i b v. row_breaks (BrickRow i) 1 (map unsigned_abs (brick_rests c.args.self.now b v))) (c.loop-brick.brick + 1) (drop (c.loop-brick.brick + 1 - 1) c.args.self.now.bricks) (drop (c.loop-brick.brick + 1 - 1) c.args.p.now))
-    ≡ first_of (over_bricks (λ i b v. row_breaks (BrickRow i) 1 (map unsigned_abs (brick_rests c.args.self.now b v))) 1 c.args.self.now.bricks c.args.p.now)
+    first_of (row_breaks (BrickRow c.loop-brick.brick) 1
+    (map unsigned_abs (sub c.right_row-right.result.now (product c.self.inside.brick c.brick.result.now)))
+    ++ over_bricks (λ i b v. row_breaks (BrickRow i) 1 (map unsigned_abs (brick_rests c.args.self.now b v)))
+    (c.loop-brick.brick + 1) (drop (c.loop-brick.brick + 1 - 1) c.args.self.now.bricks)
+    (drop (c.loop-brick.brick + 1 - 1) c.args.p.now))
+    ≡ first_of (over_bricks (λ i b v. row_breaks (BrickRow i) 1 (map unsigned_abs (brick_rests c.args.self.now b v))) 1
+    c.args.self.now.bricks c.args.p.now)
 step c =
     let r = c.right_row-right.ensures.rights in
-    let here = from_brick (λ i b v. row_breaks (BrickRow i) 1 (map unsigned_abs (brick_rests c.args.self.now b v))) c.loop-brick.brick c.args.self.now.bricks c.args.p.now r.0 c.brick.result.now c.loop-brick.invariant.from r.1 c.brick.ensures.vector in
-    let rows = ap (λ m. first_of (row_breaks (BrickRow c.loop-brick.brick) 1 (map unsigned_abs (sub (r.0).right (product m c.brick.result.now)))
-    ++ over_bricks (λ i b v. row_breaks (BrickRow i) 1 (map unsigned_abs (brick_rests c.args.self.now b v))) (c.loop-brick.brick + 1) (drop (c.loop-brick.brick + 1 - 1) c.args.self.now.bricks) (drop (c.loop-brick.brick + 1 - 1) c.args.p.now)))
+    let here = from_brick (λ i b v. row_breaks (BrickRow i) 1 (map unsigned_abs (brick_rests c.args.self.now b v)))
+    c.loop-brick.brick c.args.self.now.bricks c.args.p.now r.0 c.brick.result.now c.loop-brick.invariant.from r.1
+    c.brick.ensures.vector in
+    let rows = ap
+    (λ m. first_of
+    (row_breaks (BrickRow c.loop-brick.brick) 1 (map unsigned_abs (sub (r.0).right (product m c.brick.result.now)))
+    ++ over_bricks (λ i b v. row_breaks (BrickRow i) 1 (map unsigned_abs (brick_rests c.args.self.now b v)))
+    (c.loop-brick.brick + 1) (drop (c.loop-brick.brick + 1 - 1) c.args.self.now.bricks)
+    (drop (c.loop-brick.brick + 1 - 1) c.args.p.now)))
     (brick_rows_are _ _ c.self.invariant c.self.view_is) in
     rw r.2 (sym rows ∙ sym (ap first_of here)) ∙ c.loop-brick.invariant.rest
 
@@ -26,10 +36,13 @@ pub returns-in-Some : goal.returns-in-Some
 returns-in-Some c = sym (first_of_some _ _ _ (sym c.in-Some.ensures)) ∙ step c.before
 
 pub loop-brick-preserved : goal.loop-brick-preserved
-loop-brick-preserved c = record { from = omega arith; rest = sym (first_of_none _ _ (sym c.in_default.ensures)) ∙ step c.before.before }
+loop-brick-preserved c =
+    record { from = omega arith; rest = sym (first_of_none _ _ (sym c.in_default.ensures)) ∙ step c.before.before }
 
 pub returns-in_default : goal.returns-in_default
 returns-in_default c =
-    let all : length c.args.self.now.bricks ≤ c.loop-brick.brick + 1 - 1 = omega (arith, c.n-brick-end.ensures.bricks) in
-    let none = over_bricks_end (λ i b v. row_breaks (BrickRow i) 1 (map unsigned_abs (brick_rests c.args.self.now b v))) (c.loop-brick.brick + 1) (c.loop-brick.brick + 1 - 1) c.args.self.now.bricks c.args.p.now all in
+    let all : length c.args.self.now.bricks ≤ c.loop-brick.brick + 1 - 1 =
+    omega (arith, c.n-brick-end.ensures.bricks) in
+    let none = over_bricks_end (λ i b v. row_breaks (BrickRow i) 1 (map unsigned_abs (brick_rests c.args.self.now b v)))
+    (c.loop-brick.brick + 1) (c.loop-brick.brick + 1 - 1) c.args.self.now.bricks c.args.p.now all in
     sym (ap first_of none) ∙ sym (first_of_none _ _ (sym c.in_default.ensures)) ∙ step c.before.before

@@ -7,5 +7,6 @@ use Rattle.fold_program.proofs.program.Program.missed_link_row.Given as goal
 abbrev pub invariant-loop-row : goal.invariant-loop-row
 invariant-loop-row l = record {
   from : 1 ≤ l.row;
-  rest : first_of (row_breaks LinkRow l.row (drop (l.row - 1) (link_misses l.self (link_rests l.self l.p)))) ≡ first_of (row_breaks LinkRow 1 (link_misses l.self (link_rests l.self l.p)));
+  rest : first_of (row_breaks LinkRow l.row (drop (l.row - 1) (link_misses l.self (link_rests l.self l.p))))
+      ≡ first_of (row_breaks LinkRow 1 (link_misses l.self (link_rests l.self l.p)));
 }

@@ -13,7 +13,8 @@ loop-brick-preserved c =
     let product : FitsSigned w128 c.dot-rest.result = search rules in
     let difference : FitsSigned w128 (to_z w128 c.loop-brick.rest-bits -ℤ c.dot-rest.result) =
     fits_signed_from_abs w128 _ (omega (arith, ints, c.row-coefficients.ensures.width, c.self.invariant.cols_to)) in
-    let next = products_step c.loop-brick.brick c.row-coefficients.result.now c.args.p.now c.brick.result.now c.loop-brick.invariant.from c.brick.ensures.vector in
+    let next = products_step c.loop-brick.brick c.row-coefficients.result.now c.args.p.now c.brick.result.now
+    c.loop-brick.invariant.from c.brick.ensures.vector in
     record {
       from = omega arith;
       left = simp to_z-of_z (omega (arith, ints, next, c.dot-rest.ensures.value));
@@ -29,11 +30,16 @@ returns-2-clause-rest c =
     let begin : FitsSigned w128 c.from-rest.result = search rules in
     let first = simp to_z-of_z at c.loop-brick.invariant.left in
     let from = simp to_z-of_z at c.from-rest.ensures in
-    let next = products_step c.loop-brick.brick c.row-coefficients.result.now c.args.p.now c.brick.result.now c.loop-brick.invariant.from c.brick.ensures.vector in
-    let end = products_end c.loop-brick.brick c.row-coefficients.result.now c.args.p.now (omega (arith, c.requires.shape.bricks, c.n-brick-end.ensures.bricks)) in
-    let links = ap (λ (m : Matrix). slice_get m.rows (c.args.row - 1)) (links_are _ _ c.self.invariant c.self.view_is) in
-    let is = zip_with-at (λ row right. right -ℤ total (map (dot row) c.args.p.now)) _ _ (c.args.row - 1) _ _ (links ∙ c.row-coefficients.ensures.entries) c.right_link.ensures in
-    let value : (c.right_link.result -ℤ total (map (dot c.row-coefficients.result.now) c.args.p.now)) ≡ (to_z w128 c.loop-brick.rest-bits -ℤ c.dot-rest.result) =
+    let next = products_step c.loop-brick.brick c.row-coefficients.result.now c.args.p.now c.brick.result.now
+    c.loop-brick.invariant.from c.brick.ensures.vector in
+    let end = products_end c.loop-brick.brick c.row-coefficients.result.now c.args.p.now
+    (omega (arith, c.requires.shape.bricks, c.n-brick-end.ensures.bricks)) in
+    let links = ap (λ (m : Matrix). slice_get m.rows (c.args.row - 1))
+    (links_are _ _ c.self.invariant c.self.view_is) in
+    let is = zip_with-at (λ row right. right -ℤ total (map (dot row) c.args.p.now)) _ _ (c.args.row - 1) _ _
+    (links ∙ c.row-coefficients.ensures.entries) c.right_link.ensures in
+    let value : (c.right_link.result -ℤ total (map (dot c.row-coefficients.result.now) c.args.p.now))
+    ≡ (to_z w128 c.loop-brick.rest-bits -ℤ c.dot-rest.result) =
     omega (arith, ints, next, end, c.dot-rest.ensures.value, first, from) in
     simp to_z-of_z (is ∙ ap Some value)
 
@@ -42,4 +48,5 @@ returns-2-clause-small c =
     let product : FitsSigned w128 c.dot-rest.result = search rules in
     let difference : FitsSigned w128 (to_z w128 c.loop-brick.rest-bits -ℤ c.dot-rest.result) =
     fits_signed_from_abs w128 _ (omega (arith, ints, c.row-coefficients.ensures.width, c.self.invariant.cols_to)) in
-    simp to_z-of_z (omega (arith, ints, c.row-coefficients.ensures.width, c.self.invariant.cols_to, c.n-brick-end.ensures.to))
+    simp to_z-of_z
+    (omega (arith, ints, c.row-coefficients.ensures.width, c.self.invariant.cols_to, c.n-brick-end.ensures.to))

@@ -16,15 +16,23 @@ loop-row-preserved c =
       so_far =
           take_next rests c.loop-row.rests.items c.push.new.self.items c.loop-row.row c.rest.result
           (ap (slice_get rests) (sym place) ∙ c.rest.ensures.rest) pushed c.loop-row.invariant.so_far;
-      small = all_next c.loop-row.rests.items c.push.new.self.items c.rest.result pushed c.loop-row.invariant.small c.rest.ensures.small;
+      small =
+          all_next c.loop-row.rests.items c.push.new.self.items c.rest.result pushed c.loop-row.invariant.small
+          c.rest.ensures.small;
     }
 
 pub returns-clause-rests : goal.returns-clause-rests
 returns-clause-rests c =
     c.loop-row.invariant.so_far
     ∙ take_all c.loop-row.row (link_rests c.args.self.now c.args.p.now) (
-    omega (arith, length-rests c.args.self.now c.args.p.now c.n.ensures.program.right_size, c.loop-row-test.false, c.r-row-end.ensures.rows)
+    omega (
+      arith,
+      length-rests c.args.self.now c.args.p.now c.n.ensures.program.right_size,
+      c.loop-row-test.false,
+      c.r-row-end.ensures.rows,
+    )
     )
 
 pub returns-clause-count : goal.returns-clause-count
-returns-clause-count c = ap length (returns-clause-rests c) ∙ length-rests c.args.self.now c.args.p.now c.n.ensures.program.right_size
+returns-clause-count c =
+    ap length (returns-clause-rests c) ∙ length-rests c.args.self.now c.args.p.now c.n.ensures.program.right_size

@@ -1,4 +1,5 @@
-use Rattle.std.proofs.Common.{arith, rules, ◌≡◌, length, ◌-ℤ◌, FitsSigned, to_z, w64, ◌⊎◌, inl, inr, length-append, ap, unsigned_abs, ◌∙◌}
+use Rattle.std.proofs.Common.{arith, rules, ◌≡◌, length, ◌-ℤ◌, FitsSigned, to_z, w64, ◌⊎◌, inl, inr, length-append, ap}
+use Rattle.std.proofs.Common.{unsigned_abs, ◌∙◌}
 use Rattle.std.specs.Int.{w128}
 use Rattle.std.proofs.lemmas.Int.{ints, to_z-of_z, fits_signed_from_abs}
 use Rattle.fold_program.proofs.RestLaws.{rest-step, rest-done}
@@ -12,7 +13,8 @@ loop-a-preserved c =
     let ft : FitsSigned w128 c.times-rest.result = search rules in
     let fs : FitsSigned w128 (to_z w128 c.loop-a.rest-bits -ℤ c.times-rest.result) =
     fits_signed_from_abs w128 _ (omega (arith, ints, ap length c.in-Some.ensures.steps.1)) in
-    let next = rest-step _ _ _ _ _ _ _ _ c.in-Some.ensures.steps.0 c.in-Some.ensures.steps.1 c.loop-a.invariant.so_far in
+    let next = rest-step _ _ _ _ _ _ _ _ c.in-Some.ensures.steps.0 c.in-Some.ensures.steps.1
+    c.loop-a.invariant.so_far in
     record {
       so_far = simp to_z-of_z (omega (arith, ints, value, next));
       read = simp length-append (omega (arith, ap length c.in-Some.ensures.steps.1));

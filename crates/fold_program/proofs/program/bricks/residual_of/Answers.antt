@@ -9,9 +9,11 @@ pub loop-at-preserved : goal.loop-at-preserved
 loop-at-preserved c =
     let entry = get_or c.args.right.now c.loop-at.at (pos 0) in
     let right : FitsSigned w64 entry = search rules in
-    let here : c.missed-residual.result ≡ unsigned_abs (entry -ℤ dot c.row.result.now c.args.vector.now) = simp to_z-of_z at c.missed-residual.ensures.value in
+    let here : c.missed-residual.result ≡ unsigned_abs (entry -ℤ dot c.row.result.now c.args.vector.now) =
+    simp to_z-of_z at c.missed-residual.ensures.value in
     let at : c.loop-at.at + 1 - 1 ≡ c.loop-at.at = omega arith in
-    let step = rests_step c.loop-at.at c.args.right.now c.args.matrix.now.rows c.args.vector.now c.row.result.now (pos 0) (search rules) (rw at at c.row.ensures.entries) in
+    let step = rests_step c.loop-at.at c.args.right.now c.args.matrix.now.rows c.args.vector.now c.row.result.now
+    (pos 0) (search rules) (rw at at c.row.ensures.entries) in
     let left = rests_from (c.loop-at.at + 1) c.args.right.now c.args.matrix.now.rows c.args.vector.now in
     let sum = ap norm1 step ∙ sum_by-cons unsigned_abs (entry -ℤ dot c.row.result.now c.args.vector.now) left in
     record {

@@ -1,4 +1,4 @@
-use Rattle.std.proofs.Common.{◌≡◌, ◌≤◌, ◌+◌, ◌*◌, ◌^◌, ℕ, ℤ, List}
+use Rattle.std.proofs.Common.{◌≡◌, ◌≤◌, ◌+◌, ◌*◌, ◌^◌, ℕ}
 use Rattle.lattice_theory.specs.Vectors.{Vector, norm1, sub}
 use Rattle.lattice_theory.specs.Matrices.{Matrix, product}
 use Rattle.fold_program.proofs.BreakLaws.{rests_from}

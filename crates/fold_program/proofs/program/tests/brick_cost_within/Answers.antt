@@ -6,4 +6,6 @@ use Rattle.fold_program.proofs.program.tests.brick_cost_within.Goals as goal
 pub brick_cost-requires-clause-within : goal.brick_cost-requires-clause-within
 brick_cost-requires-clause-within c = λ b there.
     within_is b c.args.vector.now
-    (ap (λ (d : Brick). is_within d c.args.vector.now) (same_brick _ b c.is_within.ensures.0 there c.is_within.ensures.1) ∙ sym c.is_within.ensures.2 ∙ c.if-not-is_within.false)
+    (ap (λ (d : Brick). is_within d c.args.vector.now)
+    (same_brick _ b c.is_within.ensures.0 there c.is_within.ensures.1) ∙ sym c.is_within.ensures.2
+    ∙ c.if-not-is_within.false)
