@@ -1,5 +1,7 @@
 -- The parts that are made from customers are accepted.
-use Rattle.std.proofs.Common.{◌≡◌, ℕ, zero, suc, ◌+◌, ◌*◌, ◌%◌, ◌^◌, ◌≤◌, ◌<◌, nat_lt, nat_le, nat_eq, not, Bool, true, max, ℤ, pos, int_lt, unsigned_abs, false, List, [], ◌∷◌, ◌++◌, length, map, sum_by, refl, ap, arith, sym, ◌∙◌, Option, Some, None, cond}
+use Rattle.std.proofs.Common.{◌≡◌, ℕ, zero, suc, ◌+◌, ◌*◌, ◌%◌, ◌^◌, ◌≤◌, ◌<◌, nat_lt, nat_le, nat_eq, not, Bool, true}
+use Rattle.std.proofs.Common.{max, ℤ, pos, int_lt, unsigned_abs, false, List, [], ◌∷◌, ◌++◌, length, map, sum_by, refl}
+use Rattle.std.proofs.Common.{ap, arith, sym, ◌∙◌, Option, Some, None, cond}
 use Rattle.std.specs.List.{AllByRecursion}
 use Rattle.std.specs.Option.{option_or}
 use Rattle.std.proofs.lemmas.Int.{ints}
@@ -16,7 +18,8 @@ use Rattle.fold_program.specs.declared.fault.ProgramFault.{ProgramFault}
 use Rattle.fold_program.specs.declared.fault.ProgramFault.TheVariants as fault
 use Rattle.fold_program.specs.Parts.{program_of}
 use Rattle.fold_program.specs.Faults.{IsProgramFault}
-use Rattle.fold_program.specs.Refusals.{in_shape, first_misshaped, crossed_in, cost_faults_in, of_each, magnitudes, brick_magnitude, total_magnitude, program_refusal, head_of}
+use Rattle.fold_program.specs.Refusals.{in_shape, first_misshaped, crossed_in, cost_faults_in, of_each, magnitudes}
+use Rattle.fold_program.specs.Refusals.{brick_magnitude, total_magnitude, program_refusal, head_of}
 use Rattle.fold_gen.specs.declared.customers.Price.{Price}
 use Rattle.fold_gen.specs.declared.customers.Customer.{Customer}
 use Rattle.fold_gen.specs.Draws.{next, after, draw, price, demand, customer, customers}
@@ -40,7 +43,12 @@ low_price z = record { a = omega arith; b = omega arith }
 pub all_small : (n z : ℕ) → AllByRecursion IsSmall (customers n z)
 all_small zero z = tt
 all_small (suc n) z = (
-  record { demand = omega arith; first = low_price (after 1 z); second = low_price (after 3 z); third = low_price (after 5 z) },
+  record {
+    demand = omega arith;
+    first = low_price (after 1 z);
+    second = low_price (after 3 z);
+    third = low_price (after 5 z);
+  },
   all_small n (after (demand z) (after 7 z)),
 )
 
@@ -73,7 +81,11 @@ none_refused : (i : ℕ) (cs : List Customer) → AllByRecursion IsSmall cs →
     of_each (λ k b. cost_faults_in k 1 b.costs b.lower b.upper) i (map brick_of cs) ≡ []
 none_refused i [] small = refl
 none_refused i (c ∷ cs) small =
-    rw (accepted c.demand c.first small.0.demand small.0.first, accepted c.demand c.second small.0.demand small.0.second, accepted c.demand c.third small.0.demand small.0.third)
+    rw (
+      accepted c.demand c.first small.0.demand small.0.first,
+      accepted c.demand c.second small.0.demand small.0.second,
+      accepted c.demand c.third small.0.demand small.0.third,
+    )
     (none_refused (suc i) cs small.1)
 
 brick_small : (c : Customer) → IsSmall c → brick_magnitude (brick_of c) ≤ 168
@@ -85,13 +97,20 @@ brick_small c small =
       magnitude_small c.demand c.third small.demand small.third,
     )
 
-total_small : (cs : List Customer) → AllByRecursion IsSmall cs → sum_by brick_magnitude (map brick_of cs) ≤ 168 * length cs
+total_small : (cs : List Customer) → AllByRecursion IsSmall cs →
+    sum_by brick_magnitude (map brick_of cs) ≤ 168 * length cs
 total_small [] small = omega arith
 total_small (c ∷ cs) small =
-    omega (arith, sum_by-cons brick_magnitude (brick_of c) (map brick_of cs), brick_small c small.0, total_small cs small.1)
+    omega (
+      arith,
+      sum_by-cons brick_magnitude (brick_of c) (map brick_of cs),
+      brick_small c small.0,
+      total_small cs small.1,
+    )
 
 -- nothing is refused of the program
-pub not_refused : (cs : List Customer) → AllByRecursion IsSmall cs → length cs ≤ 10000 → program_refusal (transport_of cs) ≡ None
+pub not_refused : (cs : List Customer) → AllByRecursion IsSmall cs → length cs ≤ 10000 →
+    program_refusal (transport_of cs) ≡ None
 not_refused cs small few =
     let total = total_small cs small in
     let test : nat_lt (2 ^ 120) (total_magnitude (transport_of cs)) ≡ false = grind (arith, nat_tests) in
@@ -105,19 +124,28 @@ nat_le_of a b h = grind (arith, nat_tests)
 nat_eq_of : (a b : ℕ) → a ≡ b → nat_eq a b ≡ true
 nat_eq_of a b h = grind (arith, nat_tests)
 
-fits : (a b c d : ℕ) (m : Matrix) → a ≤ length m.rows → length m.rows ≤ b → c ≤ m.cols → m.cols ≤ d → in_shape a b c d m ≡ true
+fits : (a b c d : ℕ) (m : Matrix) → a ≤ length m.rows → length m.rows ≤ b → c ≤ m.cols → m.cols ≤ d →
+    in_shape a b c d m ≡ true
 fits a b c d m rows_from rows_to cols_from cols_to =
-    rw (nat_le_of a (length m.rows) rows_from, nat_le_of (length m.rows) b rows_to, nat_le_of c m.cols cols_from, nat_le_of m.cols d cols_to) refl
+    rw (
+      nat_le_of a (length m.rows) rows_from,
+      nat_le_of (length m.rows) b rows_to,
+      nat_le_of c m.cols cols_from,
+      nat_le_of m.cols d cols_to,
+    ) refl
 
-passed : (b : Bool) (kind : FileKind) (rest : Option FileKind) → b ≡ true → rest ≡ None → cond (not b) (Some kind) rest ≡ None
+passed : (b : Bool) (kind : FileKind) (rest : Option FileKind) → b ≡ true → rest ≡ None →
+    cond (not b) (Some kind) rest ≡ None
 passed b kind rest e none = rw e none
 
 counted : (b : Bool) (kind : FileKind) → b ≡ true → cond b None (Some kind) ≡ None
 counted b kind e = rw e refl
 
 -- the parts of these sizes fit each other
-pub well_shaped : (p : Parts) (n : ℕ) → 1 ≤ n → n ≤ 10000 → p.link ≡ links → p.brick ≡ shares → length p.lower.rows ≡ n → p.lower.cols ≡ 3 →
-    length p.upper.rows ≡ n → p.upper.cols ≡ 3 → length p.right.rows ≡ 1 → p.right.cols ≡ 3 + n → length p.costs.items ≡ n * 3 → first_misshaped p ≡ None
+pub well_shaped : (p : Parts) (n : ℕ) → 1 ≤ n → n ≤ 10000 → p.link ≡ links → p.brick ≡ shares →
+    length p.lower.rows ≡ n → p.lower.cols ≡ 3 →
+    length p.upper.rows ≡ n → p.upper.cols ≡ 3 → length p.right.rows ≡ 1 → p.right.cols ≡ 3 + n →
+    length p.costs.items ≡ n * 3 → first_misshaped p ≡ None
 well_shaped p n some few link brick lower_rows lower_cols upper_rows upper_cols right_rows right_cols costs =
     let links_rows : length p.link.rows ≡ 3 = ap (λ (m : Matrix). length m.rows) link in
     let links_cols : p.link.cols ≡ 3 = ap (λ (m : Matrix). m.cols) link in
@@ -125,12 +153,18 @@ well_shaped p n some few link brick lower_rows lower_cols upper_rows upper_cols 
     let brick_cols : p.brick.cols ≡ 3 = ap (λ (m : Matrix). m.cols) brick in
     let wide : length p.link.rows + length p.lower.rows * length p.brick.rows ≡ 3 + n =
     ap (λ k. length p.link.rows + length p.lower.rows * k) brick_rows ∙ omega (arith, links_rows, lower_rows) in
-    let many : length p.lower.rows * p.link.cols ≡ n * 3 = ap (λ k. length p.lower.rows * k) links_cols ∙ ap (λ k. k * 3) lower_rows in
+    let many : length p.lower.rows * p.link.cols ≡ n * 3 = ap (λ k. length p.lower.rows * k) links_cols
+    ∙ ap (λ k. k * 3) lower_rows in
     passed _ _ _ (fits 0 16 1 32 p.link (omega arith) (omega arith) (omega arith) (omega arith))
     (passed _ _ _ (fits 0 16 p.link.cols p.link.cols p.brick (omega arith) (omega arith) (omega arith) (omega arith))
     (passed _ _ _ (fits 1 10000 p.link.cols p.link.cols p.lower (omega arith) (omega arith) (omega arith) (omega arith))
-    (passed _ _ _ (fits (length p.lower.rows) (length p.lower.rows) p.link.cols p.link.cols p.upper (omega arith) (omega arith) (omega arith) (omega arith))
-    (passed _ _ _ (fits 1 1 (length p.link.rows + length p.lower.rows * length p.brick.rows) (length p.link.rows + length p.lower.rows * length p.brick.rows) p.right (omega arith) (omega arith) (omega (arith, wide)) (omega (arith, wide)))
+    (passed _ _ _
+    (fits (length p.lower.rows) (length p.lower.rows) p.link.cols p.link.cols p.upper (omega arith) (omega arith)
+    (omega arith) (omega arith))
+    (passed _ _ _
+    (fits 1 1 (length p.link.rows + length p.lower.rows * length p.brick.rows)
+    (length p.link.rows + length p.lower.rows * length p.brick.rows) p.right (omega arith) (omega arith)
+    (omega (arith, wide)) (omega (arith, wide)))
     (counted _ _ (nat_eq_of (length p.costs.items) (length p.lower.rows * p.link.cols) (costs ∙ sym many)))))))
 
 -- ---- the faults
@@ -148,7 +182,9 @@ no_fault p (fault.Shape kind) shaped accepted is = absurd (differ (sym shaped �
   where
     differ : None ≡ Some kind → ⊥
     differ e = cc
-no_fault p (fault.CrossedBounds i j) shaped accepted is = absurd (none_some (program_refusal (program_of p)) _ accepted is.1)
+no_fault p (fault.CrossedBounds i j) shaped accepted is =
+    absurd (none_some (program_refusal (program_of p)) _ accepted is.1)
 no_fault p (fault.Cost i j f) shaped accepted is = absurd (none_some (program_refusal (program_of p)) _ accepted is.1)
-no_fault p fault.CostSumTooLarge shaped accepted is = absurd (none_some (program_refusal (program_of p)) _ accepted is.1)
+no_fault p fault.CostSumTooLarge shaped accepted is =
+    absurd (none_some (program_refusal (program_of p)) _ accepted is.1)
 no_fault p fault.Memory shaped accepted is = refl

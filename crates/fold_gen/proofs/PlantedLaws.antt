@@ -1,5 +1,6 @@
 -- The planted point is feasible.
-use Rattle.std.proofs.Common.{◌≡◌, ℕ, zero, suc, ◌+◌, ◌%◌, ◌<◌, ℤ, pos, ◌+ℤ◌, ◌-ℤ◌, ◌*ℤ◌, ◌≤ℤ◌, List, [], ◌∷◌, length, map, sum, sum_by, nat_eq, cond, refl, ap, arith, sym, ◌∙◌}
+use Rattle.std.proofs.Common.{◌≡◌, ℕ, zero, suc, ◌+◌, ◌%◌, ◌<◌, ℤ, pos, ◌+ℤ◌, ◌-ℤ◌, ◌*ℤ◌, ◌≤ℤ◌, List, [], ◌∷◌, length}
+use Rattle.std.proofs.Common.{map, sum, sum_by, nat_eq, cond, refl, ap, arith, sym, ◌∙◌}
 use Rattle.std.specs.List.{AllZip, AllByRecursion}
 use Rattle.std.proofs.lemmas.Int.{ints}
 use Rattle.std.proofs.lemmas.Bool.Decides.{nat_tests}
@@ -73,11 +74,13 @@ all_met all [] supplied = tt
 all_met all (c ∷ cs) supplied = (ap (λ a. a ∷ []) (met c supplied.0), all_met all cs supplied.1)
 
 -- what the bricks send from one supplier
-module _ (share_of : Planted → ℕ) (row : Vector) (picks : (v : Planted) → dot row (vector_of v) ≡ pos (share_of v)) where
-  all_sent : (cs : List Customer) → total (map (dot row) (planted_point cs)) ≡ pos (sum_by (λ c. share_of c.planted) cs)
-  all_sent [] = refl
-  all_sent (c ∷ cs) =
-      omega (arith, ints, picks c.planted, all_sent cs, sum_by-cons (λ (d : Customer). share_of d.planted) c cs)
+module _ (share_of : Planted → ℕ) (row : Vector) (picks : (v : Planted) → dot row (vector_of v) ≡ pos (share_of v))
+  where
+    all_sent : (cs : List Customer) →
+        total (map (dot row) (planted_point cs)) ≡ pos (sum_by (λ c. share_of c.planted) cs)
+    all_sent [] = refl
+    all_sent (c ∷ cs) =
+        omega (arith, ints, picks c.planted, all_sent cs, sum_by-cons (λ (d : Customer). share_of d.planted) c cs)
 
 no_rest : (a : ℕ) (b : ℤ) → b ≡ pos a → pos a -ℤ b ≡ pos 0
 no_rest a b e = omega (arith, ints, e)

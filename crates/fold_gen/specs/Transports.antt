@@ -25,7 +25,9 @@ brick_of c = record {
 
 -- what the suppliers are planted to send, in all
 abbrev pub sent : List Customer → Vector
-sent cs = pos (sum_by (λ c. c.planted.first) cs) ∷ pos (sum_by (λ c. c.planted.second) cs) ∷ pos (sum_by (λ c. c.planted.third) cs) ∷ []
+sent cs =
+    pos (sum_by (λ c. c.planted.first) cs) ∷ pos (sum_by (λ c. c.planted.second) cs) ∷ pos
+    (sum_by (λ c. c.planted.third) cs) ∷ []
 
 -- each supplier has a linking row, and each customer takes from all
 abbrev pub links : Matrix

@@ -1,6 +1,7 @@
 -- Slack bases at values worked by hand: of the matrix (1 1), whose lattice is that of all (a, b, a + b), of the matrix
 -- (1), and of a row without columns.
-use Rattle.std.specs.Prelude.{◌≡◌, ℕ, ◌+◌, suc, zero, ℤ, pos, negsuc, ◌+ℤ◌, ◌*ℤ◌, true, false, List, [], ◌∷◌, Contains, refl}
+use Rattle.std.specs.Prelude.{◌≡◌, ℕ, ◌+◌, suc, zero, ℤ, pos, negsuc, ◌+ℤ◌, ◌*ℤ◌, true, false, List, [], ◌∷◌, Contains}
+use Rattle.std.specs.Prelude.{refl}
 use Rattle.std.proofs.Common.{arith, ap, sym, ◌∙◌, ◌⊎◌, inl, inr, subst, get_or}
 use Rattle.std.proofs.lemmas.Int.{ints}
 use Rattle.std.proofs.lemmas.Bool.Decides.{nat_tests}

@@ -1,5 +1,6 @@
 -- A program passes at most one limit first, and none where all that its outcome reaches is within the limits.
-use Rattle.std.proofs.Common.{◌≡◌, ℕ, ◌+◌, ◌*◌, ◌^◌, ◌<◌, ◌≤◌, unsigned_abs, List, length, All, Contains, Some, slice_get, refl, ap, arith, sym, ◌∙◌, subst, ◌⊎◌, inl, inr}
+use Rattle.std.proofs.Common.{◌≡◌, ℕ, ◌+◌, ◌*◌, ◌^◌, ◌<◌, ◌≤◌, unsigned_abs, List, length, All, Some, slice_get, refl}
+use Rattle.std.proofs.Common.{ap, arith, sym, ◌∙◌, subst, ◌⊎◌, inl, inr}
 use Rattle.std.proofs.lemmas.Bool.{cases_order}
 use Rattle.std.proofs.lemmas.List.{length-map}
 use Rattle.std.proofs.lemmas.List.Elements.{All-contains}
@@ -21,12 +22,18 @@ use Rattle.fold_theory.specs.Programs.{Program, Bricks, link_rests, link_miss}
 use Rattle.run_theory.specs.Links.{Bases, AreBases, generators, links_of, fold_complexity}
 use Rattle.run_theory.specs.BrickSums.{ExceedsSums}
 use Rattle.run_theory.specs.Outcomes.{Outcome, IsOutcome, CountedPart, AllSettle}
-use Rattle.run_theory.specs.Limits.{Caps, IsFirstWide, BrickStageWithin, LinkStageWithin, PhaseBegins, FitsTable, SumStageWithin, CountedStageWithin, IsLimit}
+use Rattle.run_theory.specs.Limits.{Caps, IsFirstWide, BrickStageWithin, LinkStageWithin, PhaseBegins, FitsTable}
+use Rattle.run_theory.specs.Limits.{SumStageWithin, CountedStageWithin, IsLimit}
 use Rattle.run_theory.specs.Solved.{IsWithinCaps}
 use Rattle.outcome_laws.proofs.SettledBricks.{settled_unique}
-use Rattle.outcome_laws.proofs.OneOutcome.{bases_unique, brick_sums_unique, counted_unique, saying, SaysMissed, stuck_or_settled}
+use Rattle.outcome_laws.proofs.OneOutcome.{bases_unique, brick_sums_unique, counted_unique, saying, SaysMissed}
+use Rattle.outcome_laws.proofs.OneOutcome.{stuck_or_settled}
 
 -- ---- the first wide entry
+
+-- what holds of each element holds of the one at a place
+at_place : {A : Type 0} → (P : A → Type 0) (xs : List A) (i : ℕ) (x : A) → All P xs → slice_get xs i ≡ Some x → P x
+at_place P xs i x all there = subst P (get_or_from_slice_get xs i x x there) (all i x (slice_get_within xs i x there))
 
 module _ (m : Matrix) where
   -- a row before that of a wide entry is narrow
@@ -34,12 +41,8 @@ module _ (m : Matrix) where
       first.i < second.i → ⊥
   no_wide_before row col other place first second before =
       let narrow = second.above first.i first.entries before first.there.0 in
-      let listed : Contains first.entries first.entry = (
-        first.j,
-        slice_get_within first.entries first.j first.entry first.there.1,
-        get_or_from_slice_get first.entries first.j first.entry first.entry first.there.1,
-      ) in
-      omega (arith, first.wide, All-contains (λ a. unsigned_abs a < 2 ^ 31) first.entries first.entry narrow listed)
+      let here = at_place (λ a. unsigned_abs a < 2 ^ 31) first.entries first.j first.entry narrow first.there.1 in
+      omega (arith, first.wide, here)
 
   -- and so is what stands before it in its row
   no_wide_left : (row col other place : ℕ) (first : IsFirstWide m row col) (second : IsFirstWide m other place) →
@@ -71,20 +74,11 @@ module _ (m : Matrix) where
       by_rows (inr (inr behind)) = absurd (no_wide_before other place row col second first behind)
 
   -- a matrix with narrow rows has none
-  no_wide_in_narrow : (row col : ℕ) → All IsNarrow m.rows → IsFirstWide m row col → ⊥
+  pub no_wide_in_narrow : (row col : ℕ) → All IsNarrow m.rows → IsFirstWide m row col → ⊥
   no_wide_in_narrow row col narrow first =
-      let listed : Contains m.rows first.entries = (
-        first.i,
-        slice_get_within m.rows first.i first.entries first.there.0,
-        get_or_from_slice_get m.rows first.i first.entries first.entries first.there.0,
-      ) in
-      let inside : Contains first.entries first.entry = (
-        first.j,
-        slice_get_within first.entries first.j first.entry first.there.1,
-        get_or_from_slice_get first.entries first.j first.entry first.entry first.there.1,
-      ) in
-      let row_narrow = All-contains IsNarrow m.rows first.entries narrow listed in
-      omega (arith, first.wide, All-contains (λ a. unsigned_abs a < 2 ^ 31) first.entries first.entry row_narrow inside)
+      let row_narrow = at_place IsNarrow m.rows first.i first.entries narrow first.there.0 in
+      let here = at_place (λ a. unsigned_abs a < 2 ^ 31) first.entries first.j first.entry row_narrow first.there.1 in
+      omega (arith, first.wide, here)
 
 module _ (p : Program) (c : Caps) where
   -- ---- the stages on the way to the outcome

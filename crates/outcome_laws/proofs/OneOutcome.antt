@@ -13,7 +13,8 @@ use Rattle.fold_theory.specs.Programs.{Program, Bricks, link_rests, link_miss, p
 use Rattle.run_theory.specs.Links.{Bases, AreBases, generators, links_of, fold_complexity}
 use Rattle.run_theory.specs.BrickSums.{AreBrickSums}
 use Rattle.run_theory.specs.BrickRuns.{BrickMove}
-use Rattle.run_theory.specs.Outcomes.{Outcome, RunRecord, IsRecorded, steps_from, AllSettle, FirstStuck, CountedPart, ClosedPart, IsOutcome}
+use Rattle.run_theory.specs.Outcomes.{Outcome, RunRecord, IsRecorded, steps_from, AllSettle, FirstStuck, CountedPart}
+use Rattle.run_theory.specs.Outcomes.{ClosedPart, IsOutcome}
 use Rattle.outcome_laws.proofs.Runs.{run_unique}
 use Rattle.outcome_laws.proofs.SumLists.{sums_unique}
 use Rattle.outcome_laws.proofs.SettledBricks.{settled_unique, settled_or_stuck, stuck_unique}

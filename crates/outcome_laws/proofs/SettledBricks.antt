@@ -1,5 +1,6 @@
 -- Bricks that settle settle in one way, none of them is stuck, and the first stuck one is one brick.
-use Rattle.std.proofs.Common.{◌≡◌, ℕ, zero, suc, ◌<◌, List, [], ◌∷◌, ◌++◌, take, Some, slice_get, refl, ap, arith, sym, ◌∙◌, inl, inr, subst}
+use Rattle.std.proofs.Common.{◌≡◌, ℕ, zero, suc, ◌<◌, List, [], ◌∷◌, ◌++◌, take, Some, slice_get, refl, ap, arith, sym}
+use Rattle.std.proofs.Common.{◌∙◌, inl, inr, subst}
 use Rattle.std.proofs.lemmas.Bool.{cases_order}
 use Rattle.lattice_theory.specs.Vectors.{Vector}
 use Rattle.fold_theory.specs.Programs.{Program, Brick, Bricks, brick_residual}

@@ -1,16 +1,15 @@
 -- A transport program passes no limit, since all bases and sums of it are known.
-use Rattle.std.proofs.Common.{◌≡◌, ℕ, ◌+◌, ◌*◌, ◌^◌, ◌<◌, ◌≤◌, unsigned_abs, nat_lt, Bool, true, List, length, refl, arith, ◌∙◌, Contains, subst}
+use Rattle.std.proofs.Common.{◌≡◌, ℕ, ◌+◌, ◌*◌, ◌^◌, ◌<◌, ◌≤◌, unsigned_abs, nat_lt, Bool, true, List, length, refl}
+use Rattle.std.proofs.Common.{arith, ◌∙◌, subst}
 use Rattle.std.specs.List.{All, list_all}
 use Rattle.std.proofs.lemmas.List.{length-map}
-use Rattle.std.proofs.lemmas.List.Elements.{All-contains, All-map, All-weaker}
-use Rattle.std.proofs.lemmas.Option.{slice_get_within, get_or_from_slice_get}
+use Rattle.std.proofs.lemmas.List.Elements.{All-map, All-weaker}
 use Rattle.std.proofs.Math.Nat.{mul-le-mul_left}
 use Rattle.std.proofs.lemmas.List.Sums.{AllPass-from_list_all}
 use Rattle.fold_theory.specs.declared.Phase.{Phase}
 use Rattle.run_theory.specs.declared.SolveFault.{SolveFault}
 use Rattle.run_theory.specs.declared.SolveFault.TheVariants.{BrickBasis, LinkEntry, LinkBasis, Sums, Table, Memory}
 use Rattle.lattice_theory.specs.Vectors.{Vector}
-use Rattle.lattice_theory.specs.Matrices.{Matrix}
 use Rattle.lattice_theory.specs.Lattices.{IsSlackBasis}
 use Rattle.lattice_theory.specs.BasisLimits.{IsNarrow, ExceedsBasis, IsBasisWithin}
 use Rattle.lattice_theory.specs.SignedSums.{Sum, HasLevel, AreSums, ExceedsSumsOf, vectors}
@@ -20,11 +19,13 @@ use Rattle.fold_theory.specs.Programs.{Program, Bricks}
 use Rattle.run_theory.specs.Links.{Bases, links_of}
 use Rattle.run_theory.specs.BrickSums.{AreBrickSums, ExceedsSums}
 use Rattle.run_theory.specs.Limits.{Caps, IsFirstWide, LinkStageWithin, IsLimit}
+use Rattle.outcome_laws.proofs.OneLimit.{no_wide_in_narrow}
 use Rattle.run_theory.proofs.KnownValues.{supplier_basis, supplier_link_basis}
 use Rattle.fold_gen.specs.Draws.{customers}
 use Rattle.fold_gen.specs.Transports.{shares, brick_of, transport}
 use Rattle.fold_gen.proofs.DrawLaws.{length-customers}
-use Rattle.transport_laws.proofs.SupplierBases.{bricks_slack, columns, links_slack, supplier_bases, brick_basis_is, complexity_is}
+use Rattle.transport_laws.proofs.SupplierBases.{bricks_slack, columns, links_slack, supplier_bases, brick_basis_is}
+use Rattle.transport_laws.proofs.SupplierBases.{complexity_is}
 use Rattle.transport_laws.proofs.SupplierSums.{gens, IsSumOfThree, at_most_thirty_seven}
 
 -- ---- narrow entries
@@ -41,23 +42,6 @@ narrow v passes =
 all_narrow : (vs : List Vector) → list_all is_narrow vs ≡ true → All IsNarrow vs
 all_narrow vs passes =
     All-weaker (λ v. is_narrow v ≡ true) IsNarrow narrow vs (AllPass-from_list_all is_narrow vs passes)
-
--- narrow rows have no wide entry
-no_wide : (m : Matrix) (row col : ℕ) → All IsNarrow m.rows → IsFirstWide m row col → ⊥
-no_wide m row col rows first =
-    let there : Contains m.rows first.entries = (
-      first.i,
-      slice_get_within m.rows first.i first.entries first.there.0,
-      get_or_from_slice_get m.rows first.i first.entries first.entries first.there.0,
-    ) in
-    let inside : Contains first.entries first.entry = (
-      first.j,
-      slice_get_within first.entries first.j first.entry first.there.1,
-      get_or_from_slice_get first.entries first.j first.entry first.entry first.there.1,
-    ) in
-    let entries = All-contains IsNarrow m.rows first.entries rows there in
-    let low = All-contains (λ a. unsigned_abs a < 2 ^ 31) first.entries first.entry entries inside in
-    omega (arith, first.wide, low)
 
 -- ---- the bases are within
 
@@ -97,7 +81,8 @@ small_table n s few low large =
     let rows : (n + 1) * s ≤ (n + 1) * 37 = mul-le-mul_left (n + 1) low in
     omega (arith, few, rows, large)
 
-module _ (number bricks : ℕ) (c : Caps) (few : bricks ≤ 10000) (basis_room : 7 ≤ c.basis) (sums_room : 37 ≤ c.sums) where
+module _ (number bricks : ℕ) (c : Caps) (few : bricks ≤ 10000) (basis_room : 7 ≤ c.basis)
+    (sums_room : 37 ≤ c.sums) where
   abbrev p : Program
   p = transport number bricks
 
@@ -118,7 +103,8 @@ module _ (number bricks : ℕ) (c : Caps) (few : bricks ≤ 10000) (basis_room :
   none_passed BrickBasis is = within_or_exceeds shares c.basis supplier_basis (six_within c.basis basis_room) is
   none_passed (LinkEntry row col) (basis, x, stage, wide) =
       let same = brick_basis_is basis stage.within.slack in
-      no_wide columns row col (all_narrow columns.rows refl) (subst (λ zs. IsFirstWide (links_of p zs) row col) same wide)
+      no_wide_in_narrow columns row col (all_narrow columns.rows refl)
+      (subst (λ zs. IsFirstWide (links_of p zs) row col) same wide)
   none_passed LinkBasis (basis, x, stage, entries, exceeds) =
       let same = brick_basis_is basis stage.within.slack in
       within_or_exceeds columns c.basis supplier_link_basis (seven_within c.basis basis_room)

@@ -1,15 +1,19 @@
 -- A complete list none of whose members stands above another, as it is or with its signs turned, is the slack basis.
-use Rattle.std.proofs.Common.{◌≡◌, Bool, true, false, ◌&&◌, ◌||◌, not, List, refl, ap, sym, ◌∙◌, Contains, inl, inr, subst}
+use Rattle.std.proofs.Common.{◌≡◌, Bool, true, false, ◌&&◌, ◌||◌, not, List, refl, ap, sym, ◌∙◌, Contains, inl, inr}
+use Rattle.std.proofs.Common.{subst}
 use Rattle.std.specs.List.{list_all}
 use Rattle.std.proofs.lemmas.List.Elements.{All-contains, All-from_recursion}
 use Rattle.lattice_theory.specs.Lists.{numbers_from}
-use Rattle.lattice_theory.specs.Vectors.{Vector, ◌⊑◌, conforms, is_rising, is_zero, leads_positive, same, add, sub, opposite}
+use Rattle.lattice_theory.specs.Vectors.{Vector, ◌⊑◌, conforms, is_rising, is_zero, leads_positive, same, add, sub}
+use Rattle.lattice_theory.specs.Vectors.{opposite}
 use Rattle.lattice_theory.specs.Matrices.{Matrix, element, unit_vector}
-use Rattle.lattice_theory.specs.Lattices.{InLattice, IsMinimal, IsSlackBasis, is_signed_element, is_complete_for, reduces_to_zero}
+use Rattle.lattice_theory.specs.Lattices.{InLattice, IsMinimal, IsSlackBasis, is_signed_element, is_complete_for}
+use Rattle.lattice_theory.specs.Lattices.{reduces_to_zero}
 use Rattle.lattice_theory.specs.BasisLimits.{IsBasisElement}
 use Rattle.lattice_laws.proofs.Tests.{and_true, not_both, same_true}
 use Rattle.lattice_laws.proofs.Members.{list_all_at, each_member}
-use Rattle.lattice_laws.proofs.Conformal.{conforms_trans, conforms_antisym, nonzero_by_take, leads_not_both, opposite-opposite, opposite_nonzero}
+use Rattle.lattice_laws.proofs.Conformal.{conforms_trans, conforms_antisym, nonzero_by_take, leads_not_both}
+use Rattle.lattice_laws.proofs.Conformal.{opposite-opposite, opposite_nonzero}
 use Rattle.lattice_laws.proofs.Elements.{closed_opposite}
 use Rattle.lattice_laws.proofs.SlackBases.{IsSigned}
 use Rattle.cover_laws.specs.Elements.{IsNonzeroElement}
@@ -92,12 +96,14 @@ module _ (m : Matrix) (vs : List Vector) (complete : is_complete_for m vs ≡ tr
       where
         by : (e : Vector) × IsSigned vs e × (e ⊑ y) → y ≡ z
         by (e, inl low, under) =
-            let tests = and_true (not (conforms e z) || same e z) (not (conforms (opposite e) z)) (apart z e listed low) in
+            let tests = and_true (not (conforms e z) || same e z) (not (conforms (opposite e) z))
+            (apart z e listed low) in
             let is = below_is e z tests.0 (conforms_trans e y z under below) in
             conforms_antisym y z below (subst (λ u. u ⊑ y) is under)
         by (e, inr low, under) =
             let f = opposite e in
-            let tests = and_true (not (conforms f z) || same f z) (not (conforms (opposite f) z)) (apart z f listed low) in
+            let tests = and_true (not (conforms f z) || same f z) (not (conforms (opposite f) z))
+            (apart z f listed low) in
             absurd (never_below (opposite f) z tests.1
             (subst (λ u. u ⊑ z) (sym (opposite-opposite e)) (conforms_trans e y z under below)))
 

@@ -43,6 +43,7 @@ supplier_bases = record { brick = supplier_basis; links = supplier_link_basis }
 pub brick_basis_is : (basis : List Vector) → IsSlackBasis shares basis → basis ≡ supplier_basis
 brick_basis_is basis slack = slack_basis_unique shares basis supplier_basis slack bricks_slack
 
-pub complexity_is : (number bricks : ℕ) (phase : Phase) → fold_complexity (transport number bricks) phase supplier_bases ≡ 3
+pub complexity_is : (number bricks : ℕ) (phase : Phase) → fold_complexity (transport number bricks) phase supplier_bases
+    ≡ 3
 complexity_is number bricks Closed = refl
 complexity_is number bricks Counted = refl

@@ -1,6 +1,7 @@
 -- The sums of at most three signed generators of a transport program: there are 37, those of three numbers that add up
 -- to 0 and of which none is larger than 3.
-use Rattle.std.proofs.Common.{◌≡◌, ℕ, zero, suc, ◌+◌, ◌*◌, ◌≤◌, ℤ, pos, ◌-ℤ◌, neg_ℤ, unsigned_abs, nat_le, Bool, true, ◌&&◌, List, length, map, refl, arith, sym, Contains, ◌⊎◌, inl, inr, subst}
+use Rattle.std.proofs.Common.{◌≡◌, ℕ, zero, suc, ◌+◌, ◌*◌, ◌≤◌, ℤ, pos, ◌-ℤ◌, neg_ℤ, unsigned_abs, nat_le, Bool, true}
+use Rattle.std.proofs.Common.{◌&&◌, List, length, map, refl, arith, sym, Contains, ◌⊎◌, inl, inr, subst}
 use Rattle.std.specs.Prelude.{flat_map}
 use Rattle.std.specs.List.{All, list_all, filter}
 use Rattle.std.proofs.lemmas.List.Elements.{All-contains}

@@ -9,9 +9,18 @@ loop-unit-preserved c =
     let drawn = c.draw-supplier.ensures.drawn in
     let turned = c.draw-supplier.ensures.turned in
     record {
-      first = share_more 0 c.args.units c.loop-unit._unit c.loop-unit.draws.z c.draw-supplier.new.self.z c.draw-supplier.result c.one_if_same-first.result _ _ low drawn turned c.one_if_same-first.ensures.one c.loop-unit.invariant.first;
-      second = share_more 1 c.args.units c.loop-unit._unit c.loop-unit.draws.z c.draw-supplier.new.self.z c.draw-supplier.result c.one_if_same-second.result _ _ low drawn turned c.one_if_same-second.ensures.one c.loop-unit.invariant.second;
-      third = share_more 2 c.args.units c.loop-unit._unit c.loop-unit.draws.z c.draw-supplier.new.self.z c.draw-supplier.result c.one_if_same-third.result _ _ low drawn turned c.one_if_same-third.ensures.one c.loop-unit.invariant.third;
+      first =
+          share_more 0 c.args.units c.loop-unit._unit c.loop-unit.draws.z c.draw-supplier.new.self.z
+          c.draw-supplier.result c.one_if_same-first.result _ _ low drawn turned c.one_if_same-first.ensures.one
+          c.loop-unit.invariant.first;
+      second =
+          share_more 1 c.args.units c.loop-unit._unit c.loop-unit.draws.z c.draw-supplier.new.self.z
+          c.draw-supplier.result c.one_if_same-second.result _ _ low drawn turned c.one_if_same-second.ensures.one
+          c.loop-unit.invariant.second;
+      third =
+          share_more 2 c.args.units c.loop-unit._unit c.loop-unit.draws.z c.draw-supplier.new.self.z
+          c.draw-supplier.result c.one_if_same-third.result _ _ low drawn turned c.one_if_same-third.ensures.one
+          c.loop-unit.invariant.third;
       turned =
           ap (after (c.args.units - (c.loop-unit._unit + 1))) turned
           ∙ sym (after_step c.args.units c.loop-unit._unit c.loop-unit.draws.z low) ∙ c.loop-unit.invariant.turned;

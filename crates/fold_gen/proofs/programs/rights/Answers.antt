@@ -1,4 +1,5 @@
-use Rattle.std.proofs.Common.{rules, ◌∙◌, ◌++◌, sym, ap, subst, IsTrue, map, take, pos, [], ◌∷◌, append_assoc, FitsSigned, w64}
+use Rattle.std.proofs.Common.{rules, ◌∙◌, ◌++◌, sym, ap, subst, IsTrue, map, take, pos, [], ◌∷◌, append_assoc}
+use Rattle.std.proofs.Common.{FitsSigned, w64}
 use Rattle.std.proofs.lemmas.Int.{to_z-of_z}
 use Rattle.std.proofs.lemmas.List.Elements.{All-push}
 use Rattle.lattice_theory.specs.Vectors.{is_bounded, IsBoundedRow}
@@ -19,5 +20,8 @@ loop-customer-preserved c =
           ∙ append_assoc (sent cs) (map (λ c. pos c.demand) (take i cs)) (c.whole.result ∷ [])
           ∙ ap (λ d. sent cs ++ (map (λ c. pos c.demand) (take i cs) ++ d ∷ [])) c.whole.ensures.value
           ∙ ap (λ ds. sent cs ++ ds) (sym more);
-      bounded = subst IsBoundedRow (sym items) (All-push (λ a. IsTrue (is_bounded a)) c.loop-customer.rights.items c.whole.result c.loop-customer.invariant.bounded c.whole.ensures.bounded);
+      bounded =
+          subst IsBoundedRow (sym items)
+          (All-push (λ a. IsTrue (is_bounded a)) c.loop-customer.rights.items c.whole.result
+          c.loop-customer.invariant.bounded c.whole.ensures.bounded);
     }

@@ -11,5 +11,7 @@ cost_at-requires-clause-within c =
     let high : FitsSigned w64 c.upper-upper.result = search rules in
     let above : c.lower-lower.result ≤ℤ c.args.v = search rules in
     let below : c.args.v ≤ℤ c.upper-upper.result = search rules in
-    simp to_z-of_z (column_of_bounds c.args.program.now c.args.brick c.args.col c.lower-lower.result c.upper-upper.result
-    (λ (l u : ℤ) (cost : Cost). (l ≤ℤ c.args.v) × (c.args.v ≤ℤ u)) c.n.ensures.program c.lower-lower.ensures c.upper-upper.ensures (λ cost. (above, below)))
+    simp to_z-of_z
+    (column_of_bounds c.args.program.now c.args.brick c.args.col c.lower-lower.result c.upper-upper.result
+    (λ (l u : ℤ) (cost : Cost). (l ≤ℤ c.args.v) × (c.args.v ≤ℤ u)) c.n.ensures.program c.lower-lower.ensures
+    c.upper-upper.ensures (λ cost. (above, below)))
