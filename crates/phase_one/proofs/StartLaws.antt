@@ -1,5 +1,6 @@
 -- Laws of the runs of the first bricks, one after the other.
-use Rattle.std.proofs.Common.{◌≡◌, ℕ, zero, suc, ◌+◌, ◌-◌, ◌*◌, ◌<◌, ◌≤◌, ◌≤ℤ◌, List, [], ◌∷◌, ◌++◌, length, map, take, drop, refl, ap, arith, sym, ◌∙◌, subst, Some, slice_get, length-append, All, Vec, Global}
+use Rattle.std.proofs.Common.{◌≡◌, ℕ, zero, suc, ◌+◌, ◌-◌, ◌*◌, ◌<◌, ◌≤◌, ◌≤ℤ◌, List, [], ◌∷◌, ◌++◌, length, map, take}
+use Rattle.std.proofs.Common.{drop, refl, ap, arith, sym, ◌∙◌, subst, Some, slice_get, length-append, All, Vec, Global}
 use Rattle.std.specs.List.{AllZip, AllByRecursion}
 use Rattle.std.proofs.lemmas.List.{take_more, take_all, map-append, take-append-le, drop-append-le, length-drop}
 use Rattle.std.proofs.lemmas.List.Elements.{length_all_zip, recursion_from_All}
@@ -22,7 +23,8 @@ use Rattle.phase_one.specs.Started.{lists}
 
 rows_of-append : (k t : ℕ) (entries v : Vector) → length entries ≡ k * t → length v ≡ t →
     rows_of (suc k) t (entries ++ v) ≡ rows_of k t entries ++ v ∷ []
-rows_of-append zero t [] v size width = ap (λ w. w ∷ []) (ap (λ n. take n v) (sym width) ∙ take_all (length v) v (omega arith))
+rows_of-append zero t [] v size width =
+    ap (λ w. w ∷ []) (ap (λ n. take n v) (sym width) ∙ take_all (length v) v (omega arith))
 rows_of-append zero t (a ∷ entries) v size width = absurd (omega arith)
 rows_of-append (suc k) t entries v size width =
     let fits : t ≤ length entries = omega arith in
@@ -30,10 +32,12 @@ rows_of-append (suc k) t entries v size width =
     rw (take-append-le t entries v fits, drop-append-le t entries v fits)
     (ap (λ rest. take t entries ∷ rest) (rows_of-append k t (drop t entries) v left width))
 
-lists-push : (traces : List (Vec BrickMove Global)) (trace : Vec BrickMove Global) → lists (traces ++ trace ∷ []) ≡ lists traces ++ trace.items ∷ []
+lists-push : (traces : List (Vec BrickMove Global)) (trace : Vec BrickMove Global) →
+    lists (traces ++ trace ∷ []) ≡ lists traces ++ trace.items ∷ []
 lists-push traces trace = map-append (λ (t : Vec BrickMove Global). t.items) traces (trace ∷ [])
 
-AllZip-push : {A B : Type 0} (R : A → B → Type 0) → (xs : List A) (ys : List B) (x : A) (y : B) → AllZip R xs ys → R x y →
+AllZip-push : {A B : Type 0} (R : A → B → Type 0) → (xs : List A) (ys : List B) (x : A) (y : B) → AllZip R xs ys →
+    R x y →
     AllZip R (xs ++ x ∷ []) (ys ++ y ∷ [])
 AllZip-push R [] [] x y all holds = (holds, tt)
 AllZip-push R [] (b ∷ ys) x y all holds = absurd all
@@ -41,7 +45,8 @@ AllZip-push R (a ∷ xs) [] x y all holds = absurd all
 AllZip-push R (a ∷ xs) (b ∷ ys) x y all holds = (all.0, AllZip-push R xs ys x y all.1 holds)
 
 module _ (p : Program) (basis : List Vector) where
-  AllSettle-push : (bs : List Brick) (traces : List (List BrickMove)) (x : Bricks) (b : Brick) (ms : List BrickMove) (v : Vector) →
+  AllSettle-push : (bs : List Brick) (traces : List (List BrickMove)) (x : Bricks) (b : Brick) (ms : List BrickMove)
+      (v : Vector) →
       AllSettle p basis bs traces x → IsBrickRun p basis b ms v → brick_residual p b v ≡ 0 →
       AllSettle p basis (bs ++ b ∷ []) (traces ++ ms ∷ []) (x ++ v ∷ [])
   AllSettle-push [] [] [] b ms v all run met = (run, met, tt)
@@ -64,21 +69,25 @@ module _ (p : Program) (basis : List Vector) where
   pub joined_none : AreJoined 0 [] []
   joined_none = record { few = omega arith; size = omega arith; settled = tt; within = tt }
 
-  brick_of : (k : ℕ) (b : Brick) → IsProgram p → slice_get p.bricks k ≡ Some b → IsBrick p.link.cols (length p.brick.rows) b
+  brick_of : (k : ℕ) (b : Brick) → IsProgram p → slice_get p.bricks k ≡ Some b →
+      IsBrick p.link.cols (length p.brick.rows) b
   brick_of k b program there =
       subst (IsBrick p.link.cols (length p.brick.rows)) (get_or_from_slice_get p.bricks k b b there)
       (program.each_brick k b (slice_get_within p.bricks k b there))
 
   -- the next brick settles too
-  pub joined_more : (k : ℕ) (traces : List (Vec BrickMove Global)) (trace : Vec BrickMove Global) (entries v : Vector) → IsProgram p →
-      IsBrickEnd p basis (k + 1) trace.items v 0 → AreJoined k traces entries → AreJoined (k + 1) (traces ++ trace ∷ []) (entries ++ v)
+  pub joined_more : (k : ℕ) (traces : List (Vec BrickMove Global)) (trace : Vec BrickMove Global) (entries v : Vector) →
+      IsProgram p →
+      IsBrickEnd p basis (k + 1) trace.items v 0 → AreJoined k traces entries →
+      AreJoined (k + 1) (traces ++ trace ∷ []) (entries ++ v)
   joined_more k traces trace entries v program (b, there, run, met, within) so_far =
       let place : k + 1 - 1 ≡ k = omega arith in
       let here : slice_get p.bricks k ≡ Some b = rw place at there in
       let low : k < length p.bricks = slice_get_within p.bricks k b here in
       let bricks : take (k + 1) p.bricks ≡ take k p.bricks ++ b ∷ [] =
       take_more p.bricks k b low ∙ ap (λ c. take k p.bricks ++ c ∷ []) (get_or_from_slice_get p.bricks k b b here) in
-      let width : length v ≡ p.link.cols = omega (arith, (brick_of k b program here).lower_size, length_all_zip ◌≤ℤ◌ b.lower v within.0) in
+      let width : length v ≡ p.link.cols =
+      omega (arith, (brick_of k b program here).lower_size, length_all_zip ◌≤ℤ◌ b.lower v within.0) in
       let next : k + 1 ≡ suc k = omega arith in
       let rows : rows_of (k + 1) p.link.cols (entries ++ v) ≡ rows_of k p.link.cols entries ++ v ∷ [] =
       ap (λ n. rows_of n p.link.cols (entries ++ v)) next ∙ rows_of-append k p.link.cols entries v so_far.size width in
@@ -86,12 +95,16 @@ module _ (p : Program) (basis : List Vector) where
         few = omega arith;
         size = simp length-append (omega (arith, so_far.size, width));
         settled = rw (bricks, rows, lists-push traces trace)
-            (AllSettle-push (take k p.bricks) (lists traces) (rows_of k p.link.cols entries) b trace.items v so_far.settled run met);
-        within = rw (bricks, rows) (AllZip-push IsWithin (take k p.bricks) (rows_of k p.link.cols entries) b v so_far.within within);
+            (AllSettle-push (take k p.bricks) (lists traces)
+            (rows_of k p.link.cols entries) b trace.items v so_far.settled run met);
+        within =
+            rw (bricks, rows)
+            (AllZip-push IsWithin (take k p.bricks) (rows_of k p.link.cols entries) b v so_far.within within);
       }
 
   -- the next brick is stuck
-  pub joined_stuck : (k residual : ℕ) (traces : List (Vec BrickMove Global)) (trace : Vec BrickMove Global) (entries v : Vector) →
+  pub joined_stuck : (k residual : ℕ) (traces : List (Vec BrickMove Global)) (trace : Vec BrickMove Global)
+      (entries v : Vector) →
       IsBrickEnd p basis (k + 1) trace.items v residual → 0 < residual → AreJoined k traces entries →
       FirstStuck p basis (k + 1) residual v (lists (traces ++ trace ∷ [])) × OfBrick p (k + 1) (λ b. IsWithin b v)
   joined_stuck k residual traces trace entries v (b, there, run, left, within) above so_far =
@@ -115,19 +128,22 @@ module _ (p : Program) (basis : List Vector) where
 
   -- ---- all bricks
 
-  met : (b : Brick) (v : Vector) → length b.right ≡ length p.brick.rows → brick_residual p b v ≡ 0 → product p.brick v ≡ b.right
+  met : (b : Brick) (v : Vector) → length b.right ≡ length p.brick.rows → brick_residual p b v ≡ 0 →
+      product p.brick v ≡ b.right
   met b v right none =
       same_vector (product p.brick v) b.right (length-rows p.brick.rows v ∙ sym right)
       (norm_none (sub b.right (product p.brick v)) none)
 
-  all_met : (bs : List Brick) (traces : List (List BrickMove)) (x : Bricks) → AllByRecursion (IsBrick p.link.cols (length p.brick.rows)) bs →
+  all_met : (bs : List Brick) (traces : List (List BrickMove)) (x : Bricks) →
+      AllByRecursion (IsBrick p.link.cols (length p.brick.rows)) bs →
       AllSettle p basis bs traces x → AllZip (λ b v. product p.brick v ≡ b.right) bs x
   all_met [] [] [] sizes all = tt
   all_met [] [] (v ∷ x) sizes all = absurd all
   all_met [] (ms ∷ traces) x sizes all = absurd all
   all_met (b ∷ bs) [] x sizes all = absurd all
   all_met (b ∷ bs) (ms ∷ traces) [] sizes all = absurd all
-  all_met (b ∷ bs) (ms ∷ traces) (v ∷ x) sizes all = (met b v sizes.0.right_size all.1, all_met bs traces x sizes.1 all.2)
+  all_met (b ∷ bs) (ms ∷ traces) (v ∷ x) sizes all =
+      (met b v sizes.0.right_size all.1, all_met bs traces x sizes.1 all.2)
 
   -- where all have settled, the entries are those of a start of phase Counted
   pub record AreStart (traces : List (Vec BrickMove Global)) (entries : Vector) : Type 0 where
@@ -135,13 +151,16 @@ module _ (p : Program) (basis : List Vector) where
     pub settled : AllSettle p basis p.bricks (lists traces) (rows_of (length p.bricks) p.link.cols entries)
     pub start : IsStart p Counted (rows_of (length p.bricks) p.link.cols entries)
 
-  pub joined_all : (k : ℕ) (traces : List (Vec BrickMove Global)) (entries : Vector) → IsProgram p → length p.bricks ≤ k →
+  pub joined_all : (k : ℕ) (traces : List (Vec BrickMove Global)) (entries : Vector) → IsProgram p →
+      length p.bricks ≤ k →
       AreJoined k traces entries → AreStart traces entries
   joined_all k traces entries program many so_far =
       let all : k ≡ length p.bricks = omega (arith, so_far.few) in
       let bricks : take k p.bricks ≡ p.bricks = take_all k p.bricks many in
-      let settled : AllSettle p basis p.bricks (lists traces) (rows_of (length p.bricks) p.link.cols entries) = rw (bricks, all) at so_far.settled in
-      let within : AreWithin p.bricks (rows_of (length p.bricks) p.link.cols entries) = rw (bricks, all) at so_far.within in
+      let settled : AllSettle p basis p.bricks (lists traces) (rows_of (length p.bricks) p.link.cols entries) =
+      rw (bricks, all) at so_far.settled in
+      let within : AreWithin p.bricks (rows_of (length p.bricks) p.link.cols entries) =
+      rw (bricks, all) at so_far.within in
       let sizes = recursion_from_All (IsBrick p.link.cols (length p.brick.rows)) p.bricks program.each_brick in
       record {
         size = so_far.size ∙ ap (λ n. n * p.link.cols) all;

@@ -16,7 +16,8 @@ use Rattle.phase_one.specs.declared.ends.Start.TheVariants.{Ready, Stuck}
 abbrev pub lists : List (Vec BrickMove Global) → List (List BrickMove)
 lists traces = map (λ t. t.items) traces
 
--- every brick settles, and their joint end is a start of phase Counted; or this brick is the first that is stuck, at a point
+-- every brick settles, and their joint end is a start of phase Counted; or this brick is the first that is stuck, at a
+-- point
 -- within its bounds
 abbrev pub IsStarted : Program → List Vector → Start → Type 0
 IsStarted p basis (Ready x traces) =

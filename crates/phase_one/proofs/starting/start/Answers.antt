@@ -11,11 +11,18 @@ use Rattle.phase_one.proofs.starting.start.Goals as goal
 
 pub loop-at-preserved : goal.loop-at-preserved
 loop-at-preserved c =
-    let end : IsBrickEnd c.args.program.now c.args.basis.now.elements (c.loop-at.at + 1) c.in-Feasible.trace.items c.in-Feasible.point.items 0 =
-    subst (IsSettled c.args.program.now c.args.basis.now.elements (c.loop-at.at + 1)) c.in-Feasible.is c.in_ok-point.ensures in
-    let more = joined_more c.args.program.now c.args.basis.now.elements c.loop-at.at c.loop-at.traces.items c.in-Feasible.trace
+    let end : IsBrickEnd c.args.program.now c.args.basis.now.elements
+    (c.loop-at.at + 1) c.in-Feasible.trace.items c.in-Feasible.point.items 0 =
+    subst (IsSettled c.args.program.now c.args.basis.now.elements (c.loop-at.at + 1)) c.in-Feasible.is
+    c.in_ok-point.ensures in
+    let more = joined_more c.args.program.now c.args.basis.now.elements c.loop-at.at c.loop-at.traces.items
+    c.in-Feasible.trace
     c.loop-at.entries.items c.in-Feasible.point.items c.n-at-end.ensures.program end c.loop-at.invariant in
-    rw (c.in_ok-push-in-Feasible.ensures.items, c.in_ok-extend_from_slice-in-Feasible.ensures.items, c.deref.ensures.value) more
+    rw (
+      c.in_ok-push-in-Feasible.ensures.items,
+      c.in_ok-extend_from_slice-in-Feasible.ensures.items,
+      c.deref.ensures.value,
+    ) more
 
 pub returns : goal.returns
 returns c =
@@ -24,7 +31,8 @@ returns c =
     let all = joined_all p basis c.loop-at.at c.loop-at.traces.items c.loop-at.entries.items c.n-at-end.ensures.program
     (omega (arith, c.loop-at-test.false, c.n-at-end.ensures.bricks)) c.loop-at.invariant in
     let made : IsPoint p c.loop-at.entries.items c.unwrap-point.result =
-    subst (λ (o : Option Bricks). IfSome o (IsPoint p c.loop-at.entries.items)) c.unwrap-point.ensures c.new.ensures.made in
+    subst (λ (o : Option Bricks). IfSome o (IsPoint p c.loop-at.entries.items)) c.unwrap-point.ensures
+    c.new.ensures.made in
     let shape : HasPointShape p c.unwrap-point.result =
     subst (λ (o : Option Bricks). IfSome o (HasPointShape p)) c.unwrap-point.ensures c.new.ensures.shape in (
       subst (AllSettle p basis p.bricks (lists c.loop-at.traces.items)) (sym made.value) all.settled,
