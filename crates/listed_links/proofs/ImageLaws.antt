@@ -1,5 +1,7 @@
 -- The link matrix, entry by entry and row by row; and that no list of narrow vectors is complete for a wide one.
-use Rattle.std.proofs.Common.{◌≡◌, ℕ, suc, ◌+◌, ◌<◌, ◌≤◌, ◌^◌, ℤ, pos, unsigned_abs, Bool, true, false, ◌&&◌, List, [], ◌∷◌, ◌++◌, length, map, take, get_or, refl, ap, arith, sym, ◌∙◌, subst, Contains, Some, slice_get, ◌⊎◌, inl, inr}
+use Rattle.std.proofs.Common.{◌≡◌, ℕ, suc, ◌+◌, ◌<◌, ◌≤◌, ◌^◌, ℤ, pos, unsigned_abs, Bool, true, false, ◌&&◌, List, []}
+use Rattle.std.proofs.Common.{◌∷◌, ◌++◌, length, map, take, get_or, refl, ap, arith, sym, ◌∙◌, subst, Contains, Some}
+use Rattle.std.proofs.Common.{slice_get, ◌⊎◌, inl, inr}
 use Rattle.std.specs.List.{All, list_all}
 use Rattle.std.proofs.Common.{length-append}
 use Rattle.std.proofs.lemmas.List.{length-map, map_more, get_or-map, get_or-append-add, get_or_default}
@@ -59,7 +61,8 @@ column-narrow m j narrow row (k, low, is) =
     omega (arith, ap unsigned_abs (sym read), narrow at (pos 0) size)
 
 -- each row of a matrix with a complete list of narrow vectors is narrow
-pub complete-narrow : (m : Matrix) (basis : List Vector) → All IsNarrow basis → All (λ row. length row ≡ m.cols) m.rows →
+pub complete-narrow : (m : Matrix) (basis : List Vector) → All IsNarrow basis →
+    All (λ row. length row ≡ m.cols) m.rows →
     is_complete_for m basis ≡ true → All IsNarrow m.rows
 complete-narrow m basis narrow widths complete i d low j e within =
     let row = get_or m.rows i d in

@@ -1,8 +1,12 @@
 -- Rows that stand one after the other in a list of entries, and the generators that a list of elements has.
-use Rattle.std.proofs.Common.{◌≡◌, ℕ, ◌+◌, ◌*◌, ◌<◌, ◌≤◌, ◌^◌, unsigned_abs, Bool, true, false, cond, List, [], ◌∷◌, ◌++◌, length, map, take, drop, get_or, refl, ap, arith, sym, ◌∙◌, subst, length-append, append_assoc, Some, slice_get, flat_map}
+use Rattle.std.proofs.Common.{◌≡◌, ℕ, ◌+◌, ◌*◌, ◌<◌, ◌≤◌, ◌^◌, unsigned_abs, Bool, true, false, cond, List, [], ◌∷◌}
+use Rattle.std.proofs.Common.{◌++◌, length, map, take, drop, get_or, refl, ap, arith, sym, ◌∙◌, subst, length-append}
+use Rattle.std.proofs.Common.{append_assoc, Some, slice_get, flat_map}
 use Rattle.std.specs.List.{All, AllByRecursion, filter}
-use Rattle.std.proofs.lemmas.List.{take_at, drop_at, take_all, take_more, map-append, length-map, append-nil, length_push}
-use Rattle.std.proofs.lemmas.List.Elements.{All-map, All-filter, All-weaker, All-take, filter-append, recursion_from_All}
+use Rattle.std.proofs.lemmas.List.{take_at, drop_at, take_all, take_more, map-append, length-map, append-nil}
+use Rattle.std.proofs.lemmas.List.{length_push}
+use Rattle.std.proofs.lemmas.List.Elements.{All-map, All-filter, All-weaker, All-take, filter-append}
+use Rattle.std.proofs.lemmas.List.Elements.{recursion_from_All}
 use Rattle.std.proofs.lemmas.Option.{slice_get-get_or, slice_get_within}
 use Rattle.lattice_theory.specs.Vectors.{Vector, is_zero}
 use Rattle.lattice_theory.specs.Matrices.{rows_of}
@@ -33,7 +37,8 @@ widths_push cols [] v all wide = (wide, tt)
 widths_push cols (row ∷ rows) v all wide = (all.0, widths_push cols rows v all.1 wide)
 
 -- one row more
-pub stands-push : (cols : ℕ) (list : List Vector) (rows : ℕ) (entries longer v : Vector) → Stands cols list rows entries →
+pub stands-push : (cols : ℕ) (list : List Vector) (rows : ℕ) (entries longer v : Vector) →
+    Stands cols list rows entries →
     longer ≡ entries ++ v → length v ≡ cols → Stands cols (list ++ v ∷ []) (rows + 1) longer
 stands-push cols list rows entries longer v so_far is wide = record {
   count = omega (arith, so_far.count, length_push list v);
@@ -77,7 +82,8 @@ kernel-more cols i elements z here =
     let same : get_or elements i z ≡ z = cc (slice_get-get_or elements i z low) in
     ap (kernel cols) (take_more elements i z low ∙ ap (λ v. take i elements ++ v ∷ []) same)
     ∙ ap (map (take cols)) (filter-append (λ v. is_zero (drop cols v)) (take i elements) (z ∷ []))
-    ∙ map-append (take cols) (filter (λ v. is_zero (drop cols v)) (take i elements)) (cond (is_zero (drop cols z)) (z ∷ []) [])
+    ∙ map-append (take cols) (filter (λ v. is_zero (drop cols v)) (take i elements))
+    (cond (is_zero (drop cols z)) (z ∷ []) [])
     ∙ ap (λ vs. kernel cols (take i elements) ++ vs) (by (is_zero (drop cols z)))
   where
     by : (b : Bool) → map (take cols) (cond b (z ∷ []) []) ≡ cond b (take cols z ∷ []) []
@@ -89,7 +95,8 @@ pub record AreRead (cols : ℕ) (elements : List Vector) (i count : ℕ) (entrie
   pub few : count ≤ i
   pub stands : Stands cols (kernel cols (take i elements)) count entries
 
-pub read-none : (cols : ℕ) (elements : List Vector) (entries : Vector) → entries ≡ [] → AreRead cols elements 0 0 entries
+pub read-none : (cols : ℕ) (elements : List Vector) (entries : Vector) → entries ≡ [] →
+    AreRead cols elements 0 0 entries
 read-none cols elements entries none = record { few = omega arith; stands = stands-none cols entries none }
 
 pub read-taken : (cols i count : ℕ) (elements : List Vector) (entries longer z : Vector) →
@@ -133,6 +140,8 @@ few-kernel cols [] = omega arith
 few-kernel cols (z ∷ elements) = by (is_zero (drop cols z)) (few-kernel cols elements)
   where
     by : (b : Bool) → length (kernel cols elements) ≤ length elements →
-        length (map (take cols) (cond b (z ∷ filter (λ v. is_zero (drop cols v)) elements) (filter (λ v. is_zero (drop cols v)) elements))) ≤ length (z ∷ elements)
+        length (map (take cols)
+        (cond b (z ∷ filter (λ v. is_zero (drop cols v)) elements)
+        (filter (λ v. is_zero (drop cols v)) elements))) ≤ length (z ∷ elements)
     by true few = omega (arith, few)
     by false few = omega (arith, few)

@@ -1,5 +1,7 @@
 -- What the ends of walks cost: what rows miss, and their sums.
-use Rattle.std.proofs.Common.{◌≡◌, ℕ, zero, suc, ◌+◌, ◌-◌, ◌*◌, ◌^◌, ◌<◌, ◌≤◌, ℤ, pos, ◌+ℤ◌, ◌-ℤ◌, unsigned_abs, List, [], ◌∷◌, ◌++◌, length, map, take, get_or, sum, refl, arith, Option, Some, None, slice_get, ap, ◌∙◌, sym, All, subst}
+use Rattle.std.proofs.Common.{◌≡◌, ℕ, zero, suc, ◌+◌, ◌-◌, ◌*◌, ◌^◌, ◌<◌, ◌≤◌, ℤ, pos, ◌+ℤ◌, ◌-ℤ◌, unsigned_abs, List}
+use Rattle.std.proofs.Common.{[], ◌∷◌, ◌++◌, length, map, take, get_or, sum, refl, arith, Option, Some, None, slice_get}
+use Rattle.std.proofs.Common.{ap, ◌∙◌, sym, All, subst}
 use Rattle.std.proofs.lemmas.List.{take_more, take_all}
 use Rattle.std.proofs.lemmas.List.Sums.{sum_by_more}
 use Rattle.std.proofs.lemmas.List.Elements.{All-push}
@@ -60,7 +62,8 @@ missed-more p rests w row at missed next miss left low same there is relation ad
     let entry : get_or whole at (pos 0) ≡ left = left-at rests p.link.rows w row at low there ∙ sym is in
     let inside : at < length whole = omega (arith, low, length-lefts rests p.link.rows w same) in
     let place : at + 1 - 1 ≡ at = omega arith in
-    let found = misses-at p.relations whole at relation.0 (ap (slice_get p.relations) (sym place) ∙ relation.1) inside in
+    let found = misses-at p.relations whole at relation.0 (ap (slice_get p.relations) (sym place)
+    ∙ relation.1) inside in
     let here : get_or (link_misses p whole) at 0 ≡ miss = found.1 ∙ ap (dist relation.0) entry ∙ sym relation.2 in
     omega (arith, added, so_far, here, sum_by_more (λ m. m) (link_misses p whole) at 0 found.0)
 

@@ -1,5 +1,7 @@
 -- Lists that are made one after the other, and facts of one brick.
-use Rattle.std.proofs.Common.{◌≡◌, ℕ, zero, suc, ◌+◌, ◌-◌, ◌<◌, ◌≤◌, ◌^◌, ℤ, ◌-ℤ◌, ◌≤ℤ◌, unsigned_abs, Bool, true, false, not, ◌&&◌, List, [], ◌∷◌, ◌++◌, length, map, take, drop, get_or, Option, Some, None, cond, refl, ap, arith, sym, ◌∙◌, subst, slice_get, option_map, All, IfSome, pos}
+use Rattle.std.proofs.Common.{◌≡◌, ℕ, zero, suc, ◌+◌, ◌-◌, ◌<◌, ◌≤◌, ◌^◌, ℤ, ◌-ℤ◌, ◌≤ℤ◌, unsigned_abs, Bool, true}
+use Rattle.std.proofs.Common.{false, not, ◌&&◌, List, [], ◌∷◌, ◌++◌, length, map, take, drop, get_or, Option, Some}
+use Rattle.std.proofs.Common.{None, cond, refl, ap, arith, sym, ◌∙◌, subst, slice_get, option_map, All, IfSome, pos}
 use Rattle.std.proofs.lemmas.Int.{ints}
 use Rattle.std.proofs.lemmas.List.{drop_all, take_all, take_more, map_more, map_push, length-map, get_or-map}
 use Rattle.std.proofs.lemmas.List.Elements.{All-push, All-from_recursion, recursion_from_All}
@@ -17,11 +19,10 @@ use Rattle.listed_sums.proofs.RowLaws.{length-vectors_of}
 use Rattle.fold_program.specs.Places.{OfBrick}
 use Rattle.fold_program.specs.Refusals.{brick_magnitude, total_magnitude}
 use Rattle.complete_lists.proofs.ScanLaws.{drop-at}
-use Rattle.listed_potentials.specs.Places.{ForBrick}
 use Rattle.listed_potentials.specs.Moves.{change_of, changes_of, all_changes, places_of, there, move_holds, row_holds}
 use Rattle.listed_potentials.specs.Columns.{cell, column_holds, columns_hold}
 use Rattle.listed_potentials.specs.Ends.{ends_hold}
-use Rattle.fold_program.proofs.PlaceLaws.{same_brick, small_in_total}
+use Rattle.fold_program.proofs.PlaceLaws.{for_brick, small_in_total}
 use Rattle.listed_potentials.proofs.TableLaws.{potential_there, last_row, layers-test}
 
 -- ---- lists
@@ -50,10 +51,6 @@ all-next P done longer y is so_far here = subst (All P) (sym is) (All-push P don
 
 -- ---- one brick
 
--- what holds of a brick of this number holds of the one that stands there
-pub for_brick : (p : Program) (i : ℕ) (P : Brick → Type 0) → OfBrick p i P → ForBrick p i P
-for_brick p i P found b at = subst P (same_brick _ found.0 b found.1 at) found.2
-
 -- where the move stays within the bounds, the change is that of the costs
 pub closed_change : (p : Program) (i : ℕ) (v u : Vector) (before after : ℤ) → OfBrick p i (λ b. true ≡ is_within b u) →
     OfBrick p i (λ b. after ≡ brick_cost b u) → OfBrick p i (λ b. before ≡ brick_cost b v) →
@@ -61,8 +58,12 @@ pub closed_change : (p : Program) (i : ℕ) (v u : Vector) (before after : ℤ) 
 closed_change p i v u before after within is was =
     let b = within.0 in
     let after_is = for_brick p i (λ c. after ≡ brick_cost c u) is b within.1 in
-    let before_is = for_brick p i (λ c. before ≡ brick_cost c v) was b within.1 in
-    (b, within.1, (λ k. Some (after_is k -ℤ before_is k)) ∙ ap (λ t. cond t (Some (brick_change Closed b v u)) None) within.2)
+    let before_is = for_brick p i (λ c. before ≡ brick_cost c v) was b within.1 in (
+      b,
+      within.1,
+      (λ k. Some (after_is k -ℤ before_is k))
+          ∙ ap (λ t. cond t (Some (brick_change Closed b v u)) None) within.2,
+    )
 
 pub no_change : (p : Program) (i : ℕ) (phase : Phase) (v u : Vector) → OfBrick p i (λ b. false ≡ is_within b u) →
     OfBrick p i (λ b. None ≡ change_of phase b v u)
@@ -208,7 +209,9 @@ pub layers-decide : (p : Program) (phase : Phase) (zs : List Vector) (rests : Ve
     ≡ (columns_hold (all_changes phase zs p.bricks x) zs rows 0 zs && ends_hold p phase zs rests last)
 layers-decide p phase zs rests x rows last points layers widths there =
     let parts = first-read rows (length p.bricks) layers in
-    let widths_of = recursion_from_All (λ r. length r ≡ length zs) (parts.0 ∷ parts.1) (subst (All (λ r. length r ≡ length zs)) parts.2 widths) in
+    let widths_of =
+    recursion_from_All (λ r. length r ≡ length zs) (parts.0 ∷ parts.1)
+    (subst (All (λ r. length r ≡ length zs)) parts.2 widths) in
     let size : slice_get (parts.0 ∷ parts.1) (length parts.1) ≡ Some last =
     (λ i. slice_get (sym parts.2 i) (parts.3 i)) ∙ there in
     ap (layers_hold p phase zs rests p.bricks x) parts.2
@@ -226,7 +229,8 @@ ends-pass true b c is pass = sym (is ∙ pass)
 ends-pass false b c is pass = sym is
 
 -- the first potential of the sum 0
-pub zero-there : (p : Program) (zs : List Vector) (rows : List (List (Option ℤ))) (at : ℕ) (zero : Vector) (first : Option ℤ) →
+pub zero-there : (p : Program) (zs : List Vector) (rows : List (List (Option ℤ))) (at : ℕ) (zero : Vector)
+    (first : Option ℤ) →
     zero ≡ zeros p.brick.cols → All (λ r. length r ≡ length zs) rows → 0 < length rows → Some at ≡ place_in zs zero →
     IfSome (slice_get rows 0) (λ cells. slice_get cells at ≡ Some first) →
     at_most (Some (pos 0)) first ≡ starts_at_zero p zs rows
@@ -259,10 +263,12 @@ pub widths-of : (sums : List Vector) (rows : List (List (Option ℤ))) (cols : �
 widths-of sums rows cols widths size =
     subst (λ n. All (λ r. length r ≡ n) rows) (size ∙ sym (length-vectors_of sums)) widths
 
-pub changes-of-width : (phase : Phase) (zs : List Vector) (bs : List Brick) (x : Bricks) (css : List (List (Option ℤ))) →
+pub changes-of-width : (phase : Phase) (zs : List Vector) (bs : List Brick) (x : Bricks)
+    (css : List (List (Option ℤ))) →
     css ≡ all_changes phase zs bs x → All (λ cs. length cs ≡ length zs) css
 changes-of-width phase zs bs x css are =
-    subst (All (λ cs. length cs ≡ length zs)) (sym are) (All-from_recursion (λ cs. length cs ≡ length zs) (all_changes phase zs bs x) (over bs x))
+    subst (All (λ cs. length cs ≡ length zs)) (sym are)
+    (All-from_recursion (λ cs. length cs ≡ length zs) (all_changes phase zs bs x) (over bs x))
   where
     over : (bs : List Brick) (x : Bricks) → AllByRecursion (λ cs. length cs ≡ length zs) (all_changes phase zs bs x)
     over [] x = tt

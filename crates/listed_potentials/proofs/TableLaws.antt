@@ -1,5 +1,7 @@
 -- The layers of a table hold where each sum holds in all layers, and each end does.
-use Rattle.std.proofs.Common.{◌≡◌, ℕ, zero, suc, ◌+◌, ◌<◌, ◌≤◌, ℤ, Bool, true, false, not, ◌&&◌, ◌||◌, cond, List, [], ◌∷◌, length, map, drop, get_or, subst, Option, Some, None, refl, ap, arith, sym, ◌∙◌, slice_get}
+use Rattle.std.proofs.Common.{◌≡◌, ℕ, zero, suc, ◌+◌, ◌<◌, ◌≤◌, ℤ, Bool, true, false, not, ◌&&◌, ◌||◌, cond, List, []}
+use Rattle.std.proofs.Common.{◌∷◌, length, map, drop, get_or, subst, Option, Some, None, refl, ap, arith, sym, ◌∙◌}
+use Rattle.std.proofs.Common.{slice_get}
 use Rattle.std.specs.List.{AllByRecursion, list_all}
 use Rattle.std.specs.Option.{option_map}
 use Rattle.std.proofs.Math.Seq.{drop-cons}
@@ -53,7 +55,8 @@ move-test phase b v u here (Some next) = some (is_within b u)
 
 -- ---- one sum in one layer
 
-module _ (phase : Phase) (zs : List Vector) (b : Brick) (v : Vector) (next : List (Option ℤ)) (size : length next ≡ length zs) where
+module _ (phase : Phase) (zs : List Vector) (b : Brick) (v : Vector) (next : List (Option ℤ))
+    (size : length next ≡ length zs) where
   -- the test of the definition
   abbrev tested : Vector → Option ℤ → Vector → Bool
   tested w here h =
@@ -64,7 +67,8 @@ module _ (phase : Phase) (zs : List Vector) (b : Brick) (v : Vector) (next : Lis
 
   row-test : (w : Vector) (here : Option ℤ) (hs : List Vector) →
       list_all (tested w here) hs
-      ≡ all_zip (λ change place. move_holds here change (there next place)) (map (λ h. change_of phase b v (add v h)) hs)
+      ≡ all_zip (λ change place. move_holds here change (there next place))
+      (map (λ h. change_of phase b v (add v h)) hs)
       (map (λ h. place_in zs (add w h)) hs)
   row-test w here [] = refl
   row-test w here (h ∷ hs) =
@@ -81,7 +85,8 @@ module _ (phase : Phase) (zs : List Vector) (b : Brick) (v : Vector) (next : Lis
   -- each sum from place j on
   abbrev rows_hold : List (Option ℤ) → ℕ → List Vector → Bool
   rows_hold row j [] = true
-  rows_hold row j (w ∷ ws) = row_holds (cell row j) (changes_of phase zs b v) (places_of zs w) next && rows_hold row (suc j) ws
+  rows_hold row j (w ∷ ws) =
+      row_holds (cell row j) (changes_of phase zs b v) (places_of zs w) next && rows_hold row (suc j) ws
 
   rows-test : (row : List (Option ℤ)) (j : ℕ) (ws : List Vector) → length row ≡ j + length ws →
       all_zip (λ w here. list_all (tested w here) zs) ws (drop j row) ≡ rows_hold row j ws
@@ -104,14 +109,17 @@ swapped false b c d = refl
 
 -- the first layer, and the others
 columns-split : (phase : Phase) (zs : List Vector) (b : Brick) (v : Vector) (more : List (List (Option ℤ)))
-    (row next : List (Option ℤ)) (rows : List (List (Option ℤ))) (size : length next ≡ length zs) (j : ℕ) (ws : List Vector) →
+    (row next : List (Option ℤ)) (rows : List (List (Option ℤ))) (size : length next ≡ length zs) (j : ℕ)
+    (ws : List Vector) →
     columns_hold (changes_of phase zs b v ∷ more) zs (row ∷ next ∷ rows) j ws
     ≡ (rows_hold phase zs b v next size row j ws && columns_hold more zs (next ∷ rows) j ws)
 columns-split phase zs b v more row next rows size j [] = refl
 columns-split phase zs b v more row next rows size j (w ∷ ws) =
-    ap (λ t. (row_holds (cell row j) (changes_of phase zs b v) (places_of zs w) next && column_holds more (places_of zs w) j (next ∷ rows)) && t)
+    ap (λ t. (row_holds (cell row j) (changes_of phase zs b v) (places_of zs w) next && column_holds more
+    (places_of zs w) j (next ∷ rows)) && t)
     (columns-split phase zs b v more row next rows size (suc j) ws)
-    ∙ swapped (row_holds (cell row j) (changes_of phase zs b v) (places_of zs w) next) (column_holds more (places_of zs w) j (next ∷ rows))
+    ∙ swapped (row_holds (cell row j) (changes_of phase zs b v) (places_of zs w) next)
+    (column_holds more (places_of zs w) j (next ∷ rows))
     (rows_hold phase zs b v next size row (suc j) ws) (columns_hold more zs (next ∷ rows) (suc j) ws)
 
 columns-none : (zs : List Vector) (rows : List (List (Option ℤ))) (j : ℕ) (ws : List Vector) →

@@ -1,5 +1,4 @@
 pub mod Moves
 pub mod Columns
 pub mod Ends
-pub mod Places
 pub mod Sizes

@@ -2,11 +2,10 @@
 
 ghost use Rattle.std.specs.Prelude.{◌≡◌, ◌≤◌, ◌+◌, ◌^◌, length, map, All, unsigned_abs, IfOk, IfSome};
 ghost use Rattle.fold_theory.specs.Programs.{IsWithin};
-ghost use Rattle.fold_program.specs.Places.{OfBrick};
+ghost use Rattle.fold_program.specs.Places.{ForBrick, OfBrick};
 ghost use Rattle.vector_sums.specs.Sizes.{IsBounded};
 ghost use Rattle.listed_sums.specs.Places.{vectors_of, IsModest};
 ghost use Rattle.listed_potentials.specs.Moves.{change_of, changes_of};
-ghost use Rattle.listed_potentials.specs.Places.{ForBrick};
 
 use fold_program::{Phase, Program};
 use listed_sums::vector_of;

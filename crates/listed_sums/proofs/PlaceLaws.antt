@@ -1,5 +1,6 @@
 -- Where a vector stands in a rising list.
-use Rattle.std.proofs.Common.{◌≡◌, ℕ, zero, suc, ◌+◌, ◌<◌, ◌≤◌, true, cond, List, [], ◌∷◌, length, Some, None, refl, ap, arith, sym, ◌∙◌, subst, slice_get, inl, inr, ℤ}
+use Rattle.std.proofs.Common.{◌≡◌, ℕ, zero, suc, ◌+◌, ◌<◌, ◌≤◌, true, cond, List, [], ◌∷◌, length, Some, None, refl, ap}
+use Rattle.std.proofs.Common.{arith, sym, ◌∙◌, subst, slice_get, inl, inr, ℤ}
 use Rattle.std.specs.Option.{option_map}
 use Rattle.std.specs.Ordering.{is_lt, is_eq, int_cmp, int_eq, ordering_reverse, eq_by_cmp}
 use Rattle.std.specs.Cmp.Lexicographic.{lists_ties}
@@ -89,7 +90,8 @@ between-less zs w low high middle m rising b here is = record {
   upto = b.upto;
 }
   where
-    at_one : (zs : List Vector) (i j : ℕ) (u v : Vector) → i ≡ j → slice_get zs i ≡ Some u → slice_get zs j ≡ Some v → u ≡ v
+    at_one : (zs : List Vector) (i j : ℕ) (u v : Vector) → i ≡ j → slice_get zs i ≡ Some u → slice_get zs j ≡ Some v →
+        u ≡ v
     at_one zs i j u v place there here = cc
 
 pub between-greater : (zs : List Vector) (w : Vector) (low high middle : ℕ) (m : Vector) → is_rising zs ≡ true →
@@ -106,7 +108,8 @@ between-greater zs w low high middle m rising b here is = record {
   upto = omega (arith, slice_get_within zs middle m here);
 }
   where
-    at_one : (zs : List Vector) (i j : ℕ) (u v : Vector) → i ≡ j → slice_get zs i ≡ Some u → slice_get zs j ≡ Some v → u ≡ v
+    at_one : (zs : List Vector) (i j : ℕ) (u v : Vector) → i ≡ j → slice_get zs i ≡ Some u → slice_get zs j ≡ Some v →
+        u ≡ v
     at_one zs i j u v place there here = cc
 
 -- equal is the member itself

@@ -1,5 +1,6 @@
 -- The sums of a matrix, row by row.
-use Rattle.std.proofs.Common.{◌≡◌, ℕ, pos, unsigned_abs, List, [], ◌∷◌, length, drop, get_or, Some, refl, ap, sym, ◌∙◌, slice_get, option_map, IfSome, subst}
+use Rattle.std.proofs.Common.{◌≡◌, ℕ, pos, unsigned_abs, List, [], ◌∷◌, length, drop, get_or, Some, refl, ap, sym, ◌∙◌}
+use Rattle.std.proofs.Common.{slice_get, option_map, IfSome, subst}
 use Rattle.std.proofs.lemmas.Option.{slice_get-map}
 use Rattle.std.proofs.lemmas.List.{length-map}
 use Rattle.lattice_theory.specs.Vectors.{Vector}
@@ -28,7 +29,8 @@ vector-at rows i row here =
 pub level-at : (rows : List Vector) (i : ℕ) (row : Vector) → slice_get rows i ≡ Some row →
     IfSome (slice_get (sums_of rows) i) (λ s. s.level ≡ unsigned_abs (get_or row 0 (pos 0)))
 level-at rows i row here =
-    subst (λ o. IfSome o (λ s. s.level ≡ unsigned_abs (get_or row 0 (pos 0)))) (sym (sum-at rows i row here)) (level-of row)
+    subst (λ o. IfSome o (λ s. s.level ≡ unsigned_abs (get_or row 0 (pos 0)))) (sym (sum-at rows i row here))
+    (level-of row)
 
 pub length-vectors_of : (rows : List Vector) → length (vectors_of rows) ≡ length rows
 length-vectors_of rows =

@@ -10,4 +10,5 @@ use Rattle.run_theory.specs.Checker.{is_sum_within}
 abbrev pub is_closed_at : List Sum → List Vector → ℕ → Sum → Bool
 is_closed_at sums gens bound s =
     nat_le bound s.level
-    || list_all (λ e. is_sum_within sums (suc s.level) (add s.vector e) && is_sum_within sums (suc s.level) (sub s.vector e)) gens
+    || list_all (λ e. is_sum_within sums (suc s.level) (add s.vector e) && is_sum_within sums (suc s.level)
+    (sub s.vector e)) gens

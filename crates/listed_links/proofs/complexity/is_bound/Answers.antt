@@ -19,7 +19,8 @@ returns-then-not-is_bounded c =
     (sym c.cols.ensures.cols) ∙ sym c.is_bounded.ensures ∙ c.if-not-is_bounded.true in
     at_least c.args.phase c.args.relations.now c.args.matrix.now c.args.basis.now.rows c.args.bound
     c.least_complexity.result false c.least_complexity.ensures c.if-bound-least_complexity.false
-    (sym c.loop-row.invariant ∙ list_all-at test c.args.basis.now.rows c.loop-row.row c.row.result.now false there heavy)
+    (sym c.loop-row.invariant
+    ∙ list_all-at test c.args.basis.now.rows c.loop-row.row c.row.result.now false there heavy)
 
 pub loop-row-preserved : goal.loop-row-preserved
 loop-row-preserved c =

@@ -1,4 +1,5 @@
-use Rattle.std.proofs.Common.{arith, ◌≡◌, ◌≤◌, ◌+◌, ◌-◌, ◌*◌, ◌++◌, ◌∙◌, sym, ap, length, map, take, subst, option_map, Some, None}
+use Rattle.std.proofs.Common.{arith, ◌≡◌, ◌≤◌, ◌+◌, ◌-◌, ◌*◌, ◌++◌, ◌∙◌, sym, ap, length, map, take, subst, option_map}
+use Rattle.std.proofs.Common.{Some, None}
 use Rattle.std.specs.List.{All}
 use Rattle.std.proofs.lemmas.List.{take_all}
 use Rattle.lattice_theory.specs.Vectors.{Vector, dot}
@@ -22,8 +23,10 @@ loop-row-preserved c =
     let place : c.loop-row.row + 1 - 1 ≡ c.loop-row.row = omega arith in
     let there = rw place at c.row.ensures.entries in
     let gens = c.args.generators.now.rows in
-    let are = subst (λ o. AreImages c.row.result.now gens (option_map (λ v. v.items) o)) c.in-Some.is c.in_ok-images.ensures in
-    let added = c.in_ok-extend_from_slice.ensures.items ∙ ap (λ v. c.loop-row.entries.items ++ v) c.deref.ensures.value in
+    let are = subst (λ o. AreImages c.row.result.now gens (option_map (λ v. v.items) o)) c.in-Some.is
+    c.in_ok-images.ensures in
+    let added = c.in_ok-extend_from_slice.ensures.items
+    ∙ ap (λ v. c.loop-row.entries.items ++ v) c.deref.ensures.value in
     let more = matrix-more c.args.link.now.rows gens c.loop-row.row c.row.result.now c.in-Some.images.items
     c.extend_from_slice.new.self.items c.loop-row.entries.items there are.0 are.1 added c.loop-row.invariant.stands
     c.loop-row.invariant.narrow in
@@ -33,7 +36,8 @@ pub new-requires : goal.new-requires
 new-requires c =
     let all : c.loop-row.row ≡ c.rows.result =
     omega (arith, c.rows.ensures, c.rows-row-end.ensures, c.loop-row-test.false, c.loop-row.auto.row-end) in
-    stands-length (length c.args.generators.now.rows) _ c.loop-row.row c.loop-row.entries.items c.loop-row.invariant.stands
+    stands-length (length c.args.generators.now.rows) _ c.loop-row.row c.loop-row.entries.items
+    c.loop-row.invariant.stands
     ∙ (λ i. all i * sym c.rows-2.ensures i)
 
 pub returns : goal.returns

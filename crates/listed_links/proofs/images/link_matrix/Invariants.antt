@@ -7,6 +7,7 @@ use Rattle.listed_links.proofs.images.link_matrix.Given as goal
 
 abbrev pub invariant-loop-row : goal.invariant-loop-row
 invariant-loop-row l = record {
-  stands : Stands (length l.generators.rows) (map (λ row. map (dot row) l.generators.rows) (take l.row l.link.rows)) l.row l.entries.items;
+  stands : Stands (length l.generators.rows) (map (λ row. map (dot row) l.generators.rows) (take l.row l.link.rows))
+      l.row l.entries.items;
   narrow : All IsNarrow (map (λ row. map (dot row) l.generators.rows) (take l.row l.link.rows));
 }

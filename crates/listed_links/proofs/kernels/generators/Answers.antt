@@ -1,8 +1,10 @@
-use Rattle.std.proofs.Common.{arith, ◌≡◌, ◌≤◌, ◌+◌, ◌-◌, ◌*◌, ◌++◌, ◌∙◌, sym, ap, length, take, drop, subst, length-take, true, false}
+use Rattle.std.proofs.Common.{arith, ◌≡◌, ◌≤◌, ◌+◌, ◌-◌, ◌*◌, ◌++◌, ◌∙◌, sym, ap, length, take, drop, subst}
+use Rattle.std.proofs.Common.{length-take, true, false}
 use Rattle.std.specs.List.{All}
 use Rattle.lattice_theory.specs.Vectors.{is_zero}
 use Rattle.lattice_theory.specs.BasisLimits.{IsNarrow}
-use Rattle.listed_links.proofs.RowLaws.{AreRead, read-taken, read-left, read-rows, stands-length, kernel-narrow, few-kernel}
+use Rattle.listed_links.proofs.RowLaws.{AreRead, read-taken, read-left, read-rows, stands-length, kernel-narrow}
+use Rattle.listed_links.proofs.RowLaws.{few-kernel}
 use Rattle.listed_links.proofs.kernels.generators.Goals as goal
 use Rattle.listed_links.proofs.kernels.generators.Goals.{then-is_zero+in_ok-extend_from_slice, else-is_zero}
 

@@ -1,10 +1,10 @@
 use Rattle.std.proofs.Common.{arith, ◌≡◌, ◌≤◌, ◌^◌, ◌∙◌, ap, length, unsigned_abs, IfSome}
-use Rattle.lattice_theory.specs.Vectors.{Vector, add}
+use Rattle.lattice_theory.specs.Vectors.{add}
 use Rattle.listed_sums.specs.Places.{vectors_of}
 use Rattle.listed_sums.proofs.RowLaws.{length-vectors_of}
 use Rattle.listed_potentials.specs.Moves.{change_of}
-use Rattle.fold_program.proofs.PlaceLaws.{brick_there}
-use Rattle.listed_potentials.proofs.RowLaws.{for_brick, next-image, all-images, all-next}
+use Rattle.fold_program.proofs.PlaceLaws.{brick_there, for_brick}
+use Rattle.listed_potentials.proofs.RowLaws.{next-image, all-images, all-next}
 use Rattle.listed_potentials.proofs.changes.changes.Goals as goal
 
 pub loop-place-preserved : goal.loop-place-preserved

@@ -1,4 +1,5 @@
-use Rattle.std.proofs.Common.{arith, ◌≡◌, ◌<◌, ◌≤◌, ◌+◌, ◌^◌, ◌∙◌, sym, ap, map, length, slice_get, Some, true, false, ℤ, Option, List, Vec, Global}
+use Rattle.std.proofs.Common.{arith, ◌<◌, ◌+◌, ◌^◌, ◌∙◌, sym, map, length, true, false}
+use Rattle.std.proofs.Common.{ℤ, Option, Vec, Global}
 use Rattle.complete_lists.proofs.ScanLaws.{at-All}
 use Rattle.listed_potentials.specs.Sizes.{AreSmall}
 use Rattle.listed_potentials.specs.Moves.{row_holds}

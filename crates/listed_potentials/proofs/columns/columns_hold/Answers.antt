@@ -1,4 +1,4 @@
-use Rattle.std.proofs.Common.{arith, ◌≡◌, ◌≤◌, ◌∙◌, sym, ap, map, length, true, false, ℤ, Option, Vec, Global}
+use Rattle.std.proofs.Common.{arith, ◌≤◌, ◌∙◌, sym, ap, map, length, true, false, ℤ, Option, Vec, Global}
 use Rattle.listed_sums.specs.Places.{vectors_of}
 use Rattle.listed_sums.proofs.RowLaws.{length-vectors_of}
 use Rattle.listed_potentials.specs.Columns.{column_holds}
@@ -10,7 +10,8 @@ returns-then-not-column_holds c =
     let changes = map (λ (v : Vec (Option ℤ) Global). v.items) c.args.changes.now in
     let rows = c.args.potentials.now.rows in
     let test = ap (λ ps. column_holds changes ps c.loop-place.place rows)
-    (sym (c.deref.ensures.value ∙ c.in_ok-places.ensures.places)) ∙ sym c.column_holds.ensures ∙ c.if-not-column_holds.true in
+    (sym (c.deref.ensures.value ∙ c.in_ok-places.ensures.places)) ∙ sym c.column_holds.ensures
+    ∙ c.if-not-column_holds.true in
     sym (columns-at changes (vectors_of c.args.sums.now.rows) rows c.loop-place.place c.vector_of.result.now false
     c.vector_of.ensures.sum test) ∙ c.loop-place.invariant
 
@@ -19,7 +20,8 @@ loop-place-preserved c =
     let changes = map (λ (v : Vec (Option ℤ) Global). v.items) c.args.changes.now in
     let rows = c.args.potentials.now.rows in
     let test = ap (λ ps. column_holds changes ps c.loop-place.place rows)
-    (sym (c.deref.ensures.value ∙ c.in_ok-places.ensures.places)) ∙ sym c.column_holds.ensures ∙ c.if-not-column_holds.false in
+    (sym (c.deref.ensures.value ∙ c.in_ok-places.ensures.places)) ∙ sym c.column_holds.ensures
+    ∙ c.if-not-column_holds.false in
     sym (columns-at changes (vectors_of c.args.sums.now.rows) rows c.loop-place.place c.vector_of.result.now true
     c.vector_of.ensures.sum test) ∙ c.loop-place.invariant
 

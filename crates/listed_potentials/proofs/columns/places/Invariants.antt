@@ -5,6 +5,7 @@ use Rattle.listed_potentials.proofs.columns.places.Given as goal
 
 abbrev pub invariant-loop-place : goal.invariant-loop-place
 invariant-loop-place l = record {
-  are : l.places.items ≡ map (λ h. place_in (vectors_of l.sums.rows) (add l.w h)) (take l.place (vectors_of l.sums.rows));
+  are : l.places.items ≡ map (λ h. place_in (vectors_of l.sums.rows) (add l.w h))
+      (take l.place (vectors_of l.sums.rows));
   inside : All (λ p. IfSome p (λ at. at < length l.sums.rows)) l.places.items;
 }

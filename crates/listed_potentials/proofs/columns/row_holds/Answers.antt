@@ -1,4 +1,4 @@
-use Rattle.std.proofs.Common.{arith, ◌≡◌, ◌<◌, ◌≤◌, ◌∙◌, sym, ap, length, get_or, Some, None, true, false}
+use Rattle.std.proofs.Common.{arith, ◌<◌, ◌∙◌, sym, ap, length, None, true, false}
 use Rattle.listed_potentials.specs.Moves.{there}
 use Rattle.listed_potentials.proofs.RowLaws.{moves-at, leads_to, nowhere, if_some}
 use Rattle.listed_potentials.proofs.columns.row_holds.Goals as goal
@@ -17,7 +17,8 @@ returns-then-not-move_holds c =
     (c.requires.inside c.loop-at.at None low_too) c.in-Some.is in
     let low : c.in-Some.place < length c.args.next.now = omega (arith, inside, c.requires.width) in
     sym (moves-at c.args.here c.args.changes.now c.args.places.now c.args.next.now c.loop-at.at _ false
-    c.loop-at-test.true low_too (leads_to c.args.places.now c.args.next.now c.loop-at.at c.in-Some.place c.in-Some.is low)
+    c.loop-at-test.true low_too
+    (leads_to c.args.places.now c.args.next.now c.loop-at.at c.in-Some.place c.in-Some.is low)
     (sym c.move_holds.ensures ∙ c.if-not-move_holds.true))
     ∙ c.loop-at.invariant
 
@@ -28,6 +29,7 @@ loop-at-preserved c =
     (c.requires.inside c.loop-at.at None low_too) c.in-Some.is in
     let low : c.in-Some.place < length c.args.next.now = omega (arith, inside, c.requires.width) in
     sym (moves-at c.args.here c.args.changes.now c.args.places.now c.args.next.now c.loop-at.at _ true
-    c.loop-at-test.true low_too (leads_to c.args.places.now c.args.next.now c.loop-at.at c.in-Some.place c.in-Some.is low)
+    c.loop-at-test.true low_too
+    (leads_to c.args.places.now c.args.next.now c.loop-at.at c.in-Some.place c.in-Some.is low)
     (sym c.move_holds.ensures ∙ c.if-not-move_holds.false))
     ∙ c.loop-at.invariant

@@ -12,6 +12,7 @@ use Rattle.listed_potentials.specs.Ends.{end_at}
 use Rattle.listed_potentials.proofs.EndLaws.{end-cost}
 use Rattle.listed_potentials.proofs.RowLaws.{zip-at, zip-end}
 use Rattle.listed_potentials.proofs.ends.ends_hold.Goals as goal
+use Rattle.listed_potentials.proofs.ends.ends_hold.Goals.{After-is_at_most}
 
 pub missed_after-after-requires-clause-rests : goal.missed_after-after-requires-clause-rests
 missed_after-after-requires-clause-rests c =
@@ -22,43 +23,45 @@ missed_after-after-requires-clause-modest c =
     at-All IsModest (vectors_of c.args.sums.now.rows) c.loop-place.place c.vector_of.result.now c.vector_of.ensures.sum
     c.requires.modest
 
-pub returns-then-not-is_at_most : goal.returns-then-not-is_at_most
-returns-then-not-is_at_most c =
+-- the place is one of the last layer
+inside : (c : After-is_at_most) → c.loop-place.place < length c.args.row.now
+inside c = omega (arith, c.requires.width, c.rows-place-end.ensures, c.loop-place-test.true)
+
+-- and its potential is tested against what the end at its sum costs
+tested : (c : After-is_at_most) →
+    at_most (get_or c.args.row.now c.loop-place.place None)
+    (end_cost c.args.program.now c.args.phase (link_rests c.args.program.now c.args.point.now)
+    (product c.args.program.now.link c.vector_of.result.now)) ≡ c.is_at_most.result
+tested c =
     let p = c.args.program.now in
     let rests = link_rests p c.args.point.now in
-    let zs = vectors_of c.args.sums.now.rows in
     let w = c.vector_of.result.now in
-    let low : c.loop-place.place < length c.args.row.now =
-    omega (arith, c.requires.width, c.rows-place-end.ensures, c.loop-place-test.true) in
     let cost : end_cost p c.args.phase rests (product p.link w) ≡ c.end.result =
     end-cost p c.args.phase rests (product p.link w)
     ∙ (λ i. end_at c.args.phase (sym c.link_residual-before.ensures.residual i)
     (link_miss p (sub (sym (c.deref.ensures.value ∙ c.in_ok-rests.ensures.rests) i) (product p.link w))))
-    ∙ ap (end_at c.args.phase c.link_residual-before.result) (sym c.missed_after-after.ensures.missed) ∙ sym c.end.ensures in
-    sym (zip-at (λ u here. at_most here (end_cost p c.args.phase rests (product p.link u))) zs c.args.row.now
-    c.loop-place.place w (get_or c.args.row.now c.loop-place.place None) false c.vector_of.ensures.sum
-    (slice_get-get_or c.args.row.now c.loop-place.place None low)
-    (ap (at_most (get_or c.args.row.now c.loop-place.place None)) cost ∙ sym c.is_at_most.ensures
-    ∙ c.if-not-is_at_most.true)) ∙ c.loop-place.invariant
+    ∙ ap (end_at c.args.phase c.link_residual-before.result) (sym c.missed_after-after.ensures.missed)
+    ∙ sym c.end.ensures in
+    ap (at_most (get_or c.args.row.now c.loop-place.place None)) cost ∙ sym c.is_at_most.ensures
+
+pub returns-then-not-is_at_most : goal.returns-then-not-is_at_most
+returns-then-not-is_at_most c =
+    let past = goal.at.returns-then-not-is_at_most c in
+    let rests = link_rests c.args.program.now c.args.point.now in
+    sym (zip-at (λ u here. at_most here (end_cost c.args.program.now c.args.phase rests
+    (product c.args.program.now.link u))) (vectors_of c.args.sums.now.rows) c.args.row.now c.loop-place.place
+    c.vector_of.result.now (get_or c.args.row.now c.loop-place.place None) false c.vector_of.ensures.sum
+    (slice_get-get_or c.args.row.now c.loop-place.place None (inside past.After-is_at_most))
+    (tested past.After-is_at_most ∙ c.if-not-is_at_most.true)) ∙ c.loop-place.invariant
 
 pub loop-place-preserved : goal.loop-place-preserved
 loop-place-preserved c =
-    let p = c.args.program.now in
-    let rests = link_rests p c.args.point.now in
-    let zs = vectors_of c.args.sums.now.rows in
-    let w = c.vector_of.result.now in
-    let low : c.loop-place.place < length c.args.row.now =
-    omega (arith, c.requires.width, c.rows-place-end.ensures, c.loop-place-test.true) in
-    let cost : end_cost p c.args.phase rests (product p.link w) ≡ c.end.result =
-    end-cost p c.args.phase rests (product p.link w)
-    ∙ (λ i. end_at c.args.phase (sym c.link_residual-before.ensures.residual i)
-    (link_miss p (sub (sym (c.deref.ensures.value ∙ c.in_ok-rests.ensures.rests) i) (product p.link w))))
-    ∙ ap (end_at c.args.phase c.link_residual-before.result) (sym c.missed_after-after.ensures.missed) ∙ sym c.end.ensures in
-    sym (zip-at (λ u here. at_most here (end_cost p c.args.phase rests (product p.link u))) zs c.args.row.now
-    c.loop-place.place w (get_or c.args.row.now c.loop-place.place None) true c.vector_of.ensures.sum
-    (slice_get-get_or c.args.row.now c.loop-place.place None low)
-    (ap (at_most (get_or c.args.row.now c.loop-place.place None)) cost ∙ sym c.is_at_most.ensures
-    ∙ c.if-not-is_at_most.false)) ∙ c.loop-place.invariant
+    let rests = link_rests c.args.program.now c.args.point.now in
+    sym (zip-at (λ u here. at_most here (end_cost c.args.program.now c.args.phase rests
+    (product c.args.program.now.link u))) (vectors_of c.args.sums.now.rows) c.args.row.now c.loop-place.place
+    c.vector_of.result.now (get_or c.args.row.now c.loop-place.place None) true c.vector_of.ensures.sum
+    (slice_get-get_or c.args.row.now c.loop-place.place None (inside c.before))
+    (tested c.before ∙ c.if-not-is_at_most.false)) ∙ c.loop-place.invariant
 
 pub returns : goal.returns
 returns c =

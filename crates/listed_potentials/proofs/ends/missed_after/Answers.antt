@@ -17,7 +17,8 @@ loop-at-preserved c =
     ∙ ap (λ (m : Matrix). slice_get m.rows (c.loop-at.at + 1 - 1)) (sym c.link.ensures.link) ∙ c.row.ensures.entries in
     record {
       so_far =
-          missed-more c.args.program.now c.args.rests.now c.args.sum.now c.row.result.now c.loop-at.at c.loop-at.missed _ c.missed.result c.left.result
+          missed-more c.args.program.now c.args.rests.now c.args.sum.now c.row.result.now c.loop-at.at c.loop-at.missed
+          _ c.missed.result c.left.result
           (omega arith) c.requires.rests rows value missed.missed refl c.loop-at.invariant.so_far;
       small = omega (arith, missed.small, c.left.ensures.small);
     }

@@ -1,9 +1,9 @@
-use Rattle.std.proofs.Common.{arith, ◌≡◌, ◌≤◌, ◌+◌, ◌-◌, ◌^◌, ◌∙◌, sym, ap, length, map, Some, slice_get, Option, ℤ, Vec, Global}
+use Rattle.std.proofs.Common.{arith, ◌≡◌, ◌≤◌, ◌+◌, ◌-◌, ◌^◌, ◌∙◌, sym, ap, length, Some, slice_get, Option, ℤ}
+use Rattle.std.proofs.Common.{Vec, Global}
 use Rattle.std.proofs.lemmas.List.{take_all}
-use Rattle.fold_theory.specs.Programs.{Brick}
 use Rattle.listed_sums.specs.Places.{vectors_of}
 use Rattle.listed_potentials.specs.Sizes.{AreSmall}
-use Rattle.listed_potentials.specs.Moves.{all_changes, changes_of}
+use Rattle.listed_potentials.specs.Moves.{all_changes}
 use Rattle.listed_potentials.proofs.RowLaws.{within-at, change-at, length-changes, next-list, all-next}
 use Rattle.listed_potentials.proofs.layers.all_changes.Goals as goal
 
@@ -41,7 +41,8 @@ returns-clause-changes c =
     let past : length whole ≤ c.loop-before.before =
     omega (
       arith,
-      length-changes c.args.phase (vectors_of c.args.sums.now.rows) c.args.program.now.bricks c.args.point.now c.requires.shape.bricks,
+      length-changes c.args.phase (vectors_of c.args.sums.now.rows) c.args.program.now.bricks c.args.point.now
+          c.requires.shape.bricks,
       c.n-before-end.ensures.bricks,
       c.loop-before-test.false,
     ) in

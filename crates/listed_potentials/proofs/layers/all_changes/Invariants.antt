@@ -6,6 +6,7 @@ use Rattle.listed_potentials.proofs.layers.all_changes.Given as goal
 
 abbrev pub invariant-loop-before : goal.invariant-loop-before
 invariant-loop-before l = record {
-  are : map (λ cs. cs.items) l.all.items ≡ take l.before (moves.all_changes l.phase (vectors_of l.sums.rows) l.program.bricks l.point);
+  are : map (λ cs. cs.items) l.all.items
+      ≡ take l.before (moves.all_changes l.phase (vectors_of l.sums.rows) l.program.bricks l.point);
   small : All (λ cs. AreSmall (2 ^ 121) cs.items) l.all.items;
 }

@@ -1,4 +1,5 @@
-use Rattle.std.proofs.Common.{arith, ◌≡◌, ◌≤◌, ◌+◌, ◌&&◌, ◌∙◌, sym, ap, subst, length, map, Some, slice_get, Option, ℤ, Vec, Global, List}
+use Rattle.std.proofs.Common.{arith, ◌≡◌, ◌≤◌, ◌+◌, ◌&&◌, ◌∙◌, sym, ap, subst, length, map, Some, slice_get, Option, ℤ}
+use Rattle.std.proofs.Common.{Vec, Global, List}
 use Rattle.std.specs.List.{All}
 use Rattle.std.proofs.lemmas.List.{length-map}
 use Rattle.std.proofs.lemmas.Result.{IfOk-weaker}
@@ -9,7 +10,8 @@ use Rattle.listed_sums.proofs.RowLaws.{length-vectors_of}
 use Rattle.listed_potentials.specs.Moves.{all_changes}
 use Rattle.listed_potentials.specs.Columns.{columns_hold}
 use Rattle.listed_potentials.specs.Ends.{ends_hold}
-use Rattle.listed_potentials.proofs.RowLaws.{layers-decide, ends-fail, ends-pass, widths-of, length-changes, changes-of-width, unmapped}
+use Rattle.listed_potentials.proofs.RowLaws.{layers-decide, ends-fail, ends-pass, widths-of, length-changes}
+use Rattle.listed_potentials.proofs.RowLaws.{changes-of-width, unmapped}
 use Rattle.listed_potentials.proofs.layers.layers_hold.Goals as goal
 
 pub returns-then-not-branch : goal.returns-then-not-branch
@@ -18,7 +20,8 @@ returns-then-not-branch c =
     let zs = vectors_of c.args.sums.now.rows in
     let rows = c.args.potentials.now.rows in
     let x = c.args.point.now in
-    let widths = widths-of c.args.sums.now.rows rows _ c.cols.ensures.each_row (c.cols.ensures.cols ∙ c.requires.cols) in
+    let widths = widths-of c.args.sums.now.rows rows _ c.cols.ensures.each_row (c.cols.ensures.cols
+    ∙ c.requires.cols) in
     let decided = layers-decide p c.args.phase zs (link_rests p x) x rows c.row-last.result.now c.requires.shape.bricks
     c.requires.layers widths (ap (slice_get rows) (sym c.n.ensures.bricks) ∙ c.row-last.ensures.cells) in
     ends-fail (columns_hold (all_changes c.args.phase zs p.bricks x) zs rows 0 zs)
@@ -73,7 +76,8 @@ returns c =
     let zs = vectors_of c.args.sums.now.rows in
     let rows = c.args.potentials.now.rows in
     let x = c.args.point.now in
-    let widths = widths-of c.args.sums.now.rows rows _ c.cols.ensures.each_row (c.cols.ensures.cols ∙ c.requires.cols) in
+    let widths = widths-of c.args.sums.now.rows rows _ c.cols.ensures.each_row (c.cols.ensures.cols
+    ∙ c.requires.cols) in
     let decided = layers-decide p c.args.phase zs (link_rests p x) x rows c.row-last.result.now c.requires.shape.bricks
     c.requires.layers widths (ap (slice_get rows) (sym c.n.ensures.bricks) ∙ c.row-last.ensures.cells) in
     let changes = ap (map items) c.deref.ensures.value ∙ c.in_ok-changes.ensures.changes in

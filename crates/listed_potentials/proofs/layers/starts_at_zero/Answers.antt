@@ -1,5 +1,4 @@
-use Rattle.std.proofs.Common.{rules, arith, ◌≡◌, ◌<◌, ◌∙◌, sym, length}
-use Rattle.std.specs.List.{All}
+use Rattle.std.proofs.Common.{◌∙◌}
 use Rattle.listed_sums.specs.Places.{vectors_of}
 use Rattle.listed_potentials.proofs.RowLaws.{zero-there, zero-nowhere, widths-of}
 use Rattle.listed_potentials.proofs.layers.starts_at_zero.Goals as goal
