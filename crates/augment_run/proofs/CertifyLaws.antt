@@ -1,5 +1,6 @@
 -- The parts of a certificate are within what can be read back.
-use Rattle.std.proofs.Common.{◌≡◌, ℕ, ◌+◌, ◌^◌, ◌<◌, ◌≤◌, ℤ, unsigned_abs, List, length, map, refl, ap, arith, sym, ◌∙◌, subst, Some, None, Option, get_or, All}
+use Rattle.std.proofs.Common.{◌≡◌, ℕ, ◌+◌, ◌^◌, ◌<◌, ◌≤◌, ℤ, unsigned_abs, List, length, map, refl, ap, arith, sym, ◌∙◌}
+use Rattle.std.proofs.Common.{subst, Some, None, Option, get_or, All}
 use Rattle.std.proofs.lemmas.Int.{ints}
 use Rattle.std.proofs.lemmas.List.{length-map, get_or-map}
 use Rattle.std.proofs.lemmas.List.Elements.{All-map, All-weaker}
@@ -67,9 +68,11 @@ module _ (p : Program) (plan : Plan) (x : Bricks) (is : IsPlan p x plan) where
     abbrev IsSumOf : Sum → Type 0
     IsSumOf s = (s.level ≤ fold_complexity p phase b) × HasLevel p.brick.cols gens s
 
-    pub levels : (bound : ℕ) → bound ≡ fold_complexity p phase b → bound < 2 ^ 43 → All (λ (s : Sum). s.level < 2 ^ 43) sums
+    pub levels : (bound : ℕ) → bound ≡ fold_complexity p phase b → bound < 2 ^ 43 →
+        All (λ (s : Sum). s.level < 2 ^ 43) sums
     levels bound is small =
-        All-weaker IsSumOf (λ (s : Sum). s.level < 2 ^ 43) (λ s has. omega (arith, has.0, is, small)) sums within.all.sound
+        All-weaker IsSumOf (λ (s : Sum). s.level < 2 ^ 43) (λ s has. omega (arith, has.0, is, small)) sums
+        within.all.sound
 
     low : All (All (λ a. unsigned_abs a ≤ 2 ^ 47)) (vectors sums)
     low = sums_low p b plan_bases phase sums within.all narrow_gens few_sums
@@ -78,7 +81,8 @@ module _ (p : Program) (plan : Plan) (x : Bricks) (is : IsPlan p x plan) where
     pub sum_rows_fit : All (λ (s : Sum). s.level < 2 ^ 43) sums → All IsSumRow (map row_of_sum sums)
     sum_rows_fit small = All-map IsSumRow row_of_sum sums (λ i d inside.
         let s = get_or sums i d in
-        let at : get_or (vectors sums) i d.vector ≡ s.vector = get_or-map (λ (s : Sum). s.vector) sums i d d.vector inside in
+        let at : get_or (vectors sums) i d.vector ≡ s.vector =
+        get_or-map (λ (s : Sum). s.vector) sums i d d.vector inside in
         let size : length (vectors sums) ≡ length sums = length-map sums (λ (s : Sum). s.vector) in
         let level = small i d inside in (
           omega (arith, ints),

@@ -19,29 +19,42 @@ use Rattle.augment_run.specs.Stages.{AreAllowed, bases_of, IsPlan, IsBegun}
 use Rattle.augment_run.proofs.RowLists.{length-kernel}
 
 -- the tables of a program whose bricks settle at x
-pub plan_is : (p : Program) (s : Settings) (x : Bricks) (bricks basis : BasisValue) (kernel links : Matrix) → AreAllowed s →
+pub plan_is : (p : Program) (s : Settings) (x : Bricks) (bricks basis : BasisValue) (kernel links : Matrix) →
+    AreAllowed s →
     bricks.matrix ≡ p.brick → BrickStageWithin p (caps_of s) bricks.elements x →
     kernel ≡ record { cols = p.brick.cols; rows = generators p bricks.elements } → All IsNarrow kernel.rows →
     links ≡ links_of p bricks.elements → All IsNarrow links.rows →
     IsBasisWithin (links_of p bricks.elements) s.max_basis basis.elements → basis.matrix ≡ links_of p bricks.elements →
     IsPlan p x (record { settings = s; bricks = bricks; kernel = kernel; links = links; basis = basis })
-plan_is p s x bricks basis kernel links limits of_bricks stage is_kernel narrow is_links small within of_links = record {
-  limits = limits;
-  stage = record { bricks = stage; entries = subst (λ (m : Matrix). All IsNarrow m.rows) is_links small; basis = within };
-  of_bricks = of_bricks;
-  kernel = is_kernel;
-  narrow = narrow;
-  links = is_links;
-  of_links = of_links;
-}
+plan_is p s x bricks basis kernel links limits of_bricks stage is_kernel narrow is_links small within of_links =
+    record {
+      limits = limits;
+      stage = record {
+        bricks = stage;
+        entries = subst (λ (m : Matrix). All IsNarrow m.rows) is_links small;
+        basis = within;
+      };
+      of_bricks = of_bricks;
+      kernel = is_kernel;
+      narrow = narrow;
+      links = is_links;
+      of_links = of_links;
+    }
 
 -- the link matrix has few columns and a row for each linking row
 pub links_few : (p : Program) (s : Settings) (x : Bricks) (basis : List Vector) (links : Matrix) → AreAllowed s →
     BrickStageWithin p (caps_of s) basis x → links ≡ links_of p basis → links.cols ≤ 2000
 links_few p s x basis links limits stage is =
-    omega (arith, ap (λ (m : Matrix). m.cols) is, length-kernel p.brick.cols basis, stage.within.short, limits.small_basis)
+    omega (
+      arith,
+      ap (λ (m : Matrix). m.cols) is,
+      length-kernel p.brick.cols basis,
+      stage.within.short,
+      limits.small_basis,
+    )
 
-pub links_high : (p : Program) (basis : List Vector) (links : Matrix) → links ≡ links_of p basis → length links.rows ≡ length p.link.rows
+pub links_high : (p : Program) (basis : List Vector) (links : Matrix) → links ≡ links_of p basis →
+    length links.rows ≡ length p.link.rows
 links_high p basis links is =
     ap (λ (m : Matrix). length m.rows) is ∙ length-map p.link.rows (λ row. map (dot row) (generators p basis))
 

@@ -1,5 +1,7 @@
 -- Lists of rows, one after the other.
-use Rattle.std.proofs.Common.{◌≡◌, ℕ, zero, suc, ◌+◌, ◌-◌, ◌*◌, ◌^◌, ◌≤◌, ℤ, ◌≤ℤ◌, unsigned_abs, Bool, true, List, [], ◌∷◌, ◌++◌, length, take, drop, get_or, refl, ap, arith, sym, ◌∙◌, subst, Some, Option, slice_get, All, IsTrue, flat_map, append-nil, length-append, IsTrue}
+use Rattle.std.proofs.Common.{◌≡◌, ℕ, zero, suc, ◌+◌, ◌-◌, ◌*◌, ◌^◌, ◌≤◌, ℤ, ◌≤ℤ◌, unsigned_abs, Bool, true, List, []}
+use Rattle.std.proofs.Common.{◌∷◌, ◌++◌, length, take, drop, get_or, refl, ap, arith, sym, ◌∙◌, subst, Some, Option}
+use Rattle.std.proofs.Common.{slice_get, All, IsTrue, flat_map, append-nil, length-append, IsTrue}
 use Rattle.std.specs.List.{AllZip, AllByRecursion, filter}
 use Rattle.std.proofs.lemmas.Grind.{flat_map-append}
 use Rattle.std.proofs.lemmas.List.{take_more, take_all, length-map}
@@ -56,25 +58,33 @@ table_again cols (row ∷ rows) widths =
 pub table_rows-all : (cols n : ℕ) (rows : List (List (Option ℤ))) (cells : List (Option ℤ)) → n ≡ length rows →
     cells ≡ flat_map (λ r. r) rows → All (λ row. length row ≡ cols) rows → table_rows n cols cells ≡ rows
 table_rows-all cols n rows cells count all widths =
-    (λ i. table_rows (count i) cols (all i)) ∙ table_again cols rows (recursion_from_All (λ row. length row ≡ cols) rows widths)
+    (λ i. table_rows (count i) cols (all i))
+    ∙ table_again cols rows (recursion_from_All (λ row. length row ≡ cols) rows widths)
 
 -- as many cells as the table has
 cell_count : (cols : ℕ) (rows : List (List (Option ℤ))) → AllByRecursion (λ row. length row ≡ cols) rows →
     length (flat_map (λ r. r) rows) ≡ length rows * cols
 cell_count cols [] widths = omega arith
 cell_count cols (row ∷ rows) widths =
-    length-append row (flat_map (λ (r : List (Option ℤ)). r) rows) ∙ omega (arith, widths.0, cell_count cols rows widths.1)
+    length-append row (flat_map (λ (r : List (Option ℤ)). r) rows)
+    ∙ omega (arith, widths.0, cell_count cols rows widths.1)
 
 pub cells_fit : (cols n : ℕ) (rows : List (List (Option ℤ))) (cells : List (Option ℤ)) → n ≡ length rows →
     cells ≡ flat_map (λ r. r) rows → All (λ row. length row ≡ cols) rows → length cells ≡ n * cols
 cells_fit cols n rows cells count all widths =
-    ap length all ∙ cell_count cols rows (recursion_from_All (λ row. length row ≡ cols) rows widths) ∙ ap (λ m. m * cols) (sym count)
+    ap length all ∙ cell_count cols rows (recursion_from_All (λ row. length row ≡ cols) rows widths)
+    ∙ ap (λ m. m * cols) (sym count)
 
 -- a list has at least as many members as its kernel
 pub length-kernel : (cols : ℕ) (basis : List Vector) → length (kernel cols basis) ≤ length basis
 length-kernel cols basis =
     let quiet : Vector → Bool = λ z. is_zero (drop cols z) in
-    omega (arith, length-map (filter quiet basis) (take cols), length-filter quiet basis, count_by-le-length quiet basis)
+    omega (
+      arith,
+      length-map (filter quiet basis) (take cols),
+      length-filter quiet basis,
+      count_by-le-length quiet basis,
+    )
 
 -- ---- points
 
@@ -83,7 +93,8 @@ pub record PointUpTo (x : List Vector) (i : ℕ) (entries : Vector) : Type 0 whe
   pub so_far : entries ≡ flat_map (λ r. r) (take i x)
   pub bounded : IsBoundedRow entries
 
-pub point_more : (x : List Vector) (i : ℕ) (v entries : Vector) → slice_get x i ≡ Some v → IsBoundedRow v → PointUpTo x i entries →
+pub point_more : (x : List Vector) (i : ℕ) (v entries : Vector) → slice_get x i ≡ Some v → IsBoundedRow v →
+    PointUpTo x i entries →
     PointUpTo x (i + 1) (entries ++ v)
 point_more x i v entries there small up = record {
   so_far = flat_more x i v entries there up.so_far;
@@ -92,27 +103,32 @@ point_more x i v entries there small up = record {
 
 -- ---- vectors within bounds that are at most 2 ^ 62
 
-pub bounded_between : (lower v upper : Vector) → IsBoundedRow lower → IsBoundedRow upper → AllZip ◌≤ℤ◌ lower v → AllZip ◌≤ℤ◌ v upper → IsBoundedRow v
+pub bounded_between : (lower v upper : Vector) → IsBoundedRow lower → IsBoundedRow upper → AllZip ◌≤ℤ◌ lower v →
+    AllZip ◌≤ℤ◌ v upper → IsBoundedRow v
 bounded_between lower v upper low high above below =
-    vector_bounded lower v upper (recursion_from_All (λ a. IsTrue (is_bounded a)) lower low) (recursion_from_All (λ a. IsTrue (is_bounded a)) upper high) above below
+    vector_bounded lower v upper (recursion_from_All (λ a. IsTrue (is_bounded a)) lower low)
+    (recursion_from_All (λ a. IsTrue (is_bounded a)) upper high) above below
 
 -- ---- a vector within the bounds of a brick
 
 brick_of : (P : Brick → Type 0) (bs : List Brick) (i : ℕ) (b : Brick) → All P bs → slice_get bs i ≡ Some b → P b
 brick_of P bs i b all there = subst P (get_or_from_slice_get bs i b b there) (all i b (slice_get_within bs i b there))
 
-pub within_width : (p : Program) (i : ℕ) (v : Vector) → IsProgram p → OfBrick p i (λ b. IsWithin b v) → length v ≡ p.link.cols
+pub within_width : (p : Program) (i : ℕ) (v : Vector) → IsProgram p → OfBrick p i (λ b. IsWithin b v) →
+    length v ≡ p.link.cols
 within_width p i v program (b, there, within) =
     let is : IsBrick p.link.cols (length p.brick.rows) b =
     brick_of (IsBrick p.link.cols (length p.brick.rows)) p.bricks (i - 1) b program.each_brick there in
     sym (length_all_zip ◌≤ℤ◌ b.lower v within.0) ∙ is.lower_size
 
-pub within_bounded : (p : Program) (i : ℕ) (v : Vector) → All HasBoundedSides p.bricks → OfBrick p i (λ b. IsWithin b v) → IsBoundedRow v
+pub within_bounded : (p : Program) (i : ℕ) (v : Vector) → All HasBoundedSides p.bricks →
+    OfBrick p i (λ b. IsWithin b v) → IsBoundedRow v
 within_bounded p i v sides (b, there, within) =
     let has : HasBoundedSides b = brick_of HasBoundedSides p.bricks (i - 1) b sides there in
     bounded_between b.lower v b.upper has.0 has.1 within.0 within.1
 
-pub number_low : (p : Program) (i : ℕ) (v : Vector) → OfBrick p i (λ b. IsWithin b v) → length p.bricks ≤ 10000 → i ≤ 10000
+pub number_low : (p : Program) (i : ℕ) (v : Vector) → OfBrick p i (λ b. IsWithin b v) → length p.bricks ≤ 10000 →
+    i ≤ 10000
 number_low p i v (b, there, within) few = omega (arith, few, slice_get_within p.bricks (i - 1) b there)
 
 -- the one row of a matrix

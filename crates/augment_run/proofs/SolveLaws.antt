@@ -39,7 +39,8 @@ solved_by p c o v program is value certificate reached = record {
 }
 
 -- where the first stuck brick was found
-pub solved_stuck : (p : Program) (c : Caps) (basis : List Vector) (number residual : ℕ) (x : Vector) (traces : List (List BrickMove)) (v : SolvedValue) →
+pub solved_stuck : (p : Program) (c : Caps) (basis : List Vector) (number residual : ℕ) (x : Vector)
+    (traces : List (List BrickMove)) (v : SolvedValue) →
     IsProgram p → IsBasisWithin p.brick c.basis basis → FirstStuck p basis number residual x traces →
     v ≡ record {
       verdict = InfeasibleBrick number residual;
@@ -50,7 +51,14 @@ pub solved_stuck : (p : Program) (c : Caps) (basis : List Vector) (number residu
       certificate = stuck_certificate p basis number x;
     } → IsSolved p c v
 solved_stuck p c basis number residual x traces v program within first is =
-    let o : Outcome = record { verdict = InfeasibleBrick number residual; point = x ∷ []; traces = traces; counted = None; closed = None } in
+    let o : Outcome =
+    record {
+      verdict = InfeasibleBrick number residual;
+      point = x ∷ [];
+      traces = traces;
+      counted = None;
+      closed = None;
+    } in
     subst (IsSolved p c) (sym is) (
     solved_by p c o (solved_value o (stuck_certificate p basis number x)) program
     (basis, x, within.slack, first, refl, refl, refl) refl
@@ -68,7 +76,8 @@ module _ (p : Program) (program : IsProgram p) (plan : Plan) where
   bases x is = record { brick = is.stage.bricks.within.slack; links = is.stage.basis.slack }
 
   -- where phase Counted ended and a linking row is missed
-  pub solved_missed : (traces : List (List BrickMove)) (e : Ended) (residual : ℕ) (v : SolvedValue) → IsMissed p plan traces e →
+  pub solved_missed : (traces : List (List BrickMove)) (e : Ended) (residual : ℕ) (v : SolvedValue) →
+      IsMissed p plan traces e →
       residual ≡ link_miss p (link_rests p e.end.point) → 0 < residual →
       IsOnAll p Counted b claim.InfeasibleLink e.end.point v.certificate →
       v ≡ record {
@@ -82,7 +91,14 @@ module _ (p : Program) (program : IsProgram p) (plan : Plan) where
   solved_missed traces e residual v missed miss some on is =
       let x = missed.settled in
       let areb = bases x missed.stage.tables in
-      let o : Outcome = record { verdict = InfeasibleLink residual; point = e.end.point; traces = traces; counted = Some e.end.made; closed = None } in
+      let o : Outcome =
+      record {
+        verdict = InfeasibleLink residual;
+        point = e.end.point;
+        traces = traces;
+        counted = Some e.end.made;
+        closed = None;
+      } in
       solved_by p caps o v program (
         b,
         x,
@@ -97,7 +113,8 @@ module _ (p : Program) (program : IsProgram p) (plan : Plan) where
       (b, x, e.sums, missed.stage.tables.stage, missed.ended.sums, missed.ended.table)
 
   -- where phase Closed ended
-  pub solved_closed : (traces : List (List BrickMove)) (made : Option RunRecord) (e : Ended) (v : SolvedValue) → IsClosed p plan traces made e →
+  pub solved_closed : (traces : List (List BrickMove)) (made : Option RunRecord) (e : Ended) (v : SolvedValue) →
+      IsClosed p plan traces made e →
       IsOnAll p Closed b claim.Optimal e.end.point v.certificate →
       v ≡ record {
         verdict = Optimal (cost p e.end.point);
@@ -135,7 +152,8 @@ module _ (p : Program) (program : IsProgram p) (plan : Plan) where
   -- ---- between the phases
 
   -- the linking rows are met where the bricks settle
-  pub met_at_once : (traces : List (List BrickMove)) (x : Bricks) → IsSettled p plan traces x → link_miss p (link_rests p x) ≡ 0 →
+  pub met_at_once : (traces : List (List BrickMove)) (x : Bricks) → IsSettled p plan traces x →
+      link_miss p (link_rests p x) ≡ 0 →
       AreMetAt p plan traces None x
   met_at_once traces x is met = record {
     settled = x;
@@ -147,7 +165,8 @@ module _ (p : Program) (program : IsProgram p) (plan : Plan) where
   }
 
   -- they are met where phase Counted ends
-  pub met_after : (traces : List (List BrickMove)) (e : Ended) → IsMissed p plan traces e → link_miss p (link_rests p e.end.point) ≡ 0 →
+  pub met_after : (traces : List (List BrickMove)) (e : Ended) → IsMissed p plan traces e →
+      link_miss p (link_rests p e.end.point) ≡ 0 →
       AreMetAt p plan traces (Some e.end.made) e.end.point
   met_after traces e missed met = record {
     settled = missed.settled;
@@ -159,14 +178,17 @@ module _ (p : Program) (program : IsProgram p) (plan : Plan) where
   }
 
   -- a run ends where it may start
-  pub run_end_starts : (phase : Phase) (sums : List Sum) (x y : Bricks) (made : RunRecord) (settled : Bricks) → IsPlan p settled plan →
-      SumStageWithin p caps phase b sums → IsStart p phase x → IsRecorded p phase (vectors sums) x made y → IsStart p phase y
+  pub run_end_starts : (phase : Phase) (sums : List Sum) (x y : Bricks) (made : RunRecord) (settled : Bricks) →
+      IsPlan p settled plan →
+      SumStageWithin p caps phase b sums → IsStart p phase x → IsRecorded p phase (vectors sums) x made y →
+      IsStart p phase y
   run_end_starts phase sums x y made settled is within start ran =
       (run_best p phase b sums ran.moves x y program (bases settled is) within.all start ran.run).start
 
 -- ---- where the phases begin
 
-pub begun_counted : (p : Program) (plan : Plan) (traces : List (List BrickMove)) (x : Bricks) → IsSettled p plan traces x →
+pub begun_counted : (p : Program) (plan : Plan) (traces : List (List BrickMove)) (x : Bricks) →
+    IsSettled p plan traces x →
     0 < link_miss p (link_rests p x) → IsBegun p Counted plan x
 begun_counted p plan traces x is misses = record { tables = is.tables; begins = misses; before = tt }
 

@@ -25,7 +25,8 @@ abbrev pub matrix_of_sums : Program → List Sum → Matrix
 matrix_of_sums p sums = record { cols = 1 + p.brick.cols; rows = map row_of_sum sums }
 
 -- the certificate of this claim on all bricks, at the point x where the phase has ended
-pub record IsOnAll (p : Program) (phase : Phase) (b : Bases) (said : Claim) (x : Bricks) (c : Certificate) : Type 0 where
+pub record IsOnAll (p : Program) (phase : Phase) (b : Bases) (said : Claim) (x : Bricks)
+    (c : Certificate) : Type 0 where
   pub claim_is : c.claim ≡ said
   pub point_is : c.point ≡ point_matrix p x
   pub bricks_are : c.bricks ≡ matrix_of_bricks p b.brick

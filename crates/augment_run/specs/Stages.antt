@@ -71,7 +71,8 @@ pub record IsMissed (p : Program) (plan : Plan) (traces : List (List BrickMove))
   pub ended : IsEnded p Counted plan settled e
 
 -- the linking rows are met at y: at once, or after this run of phase Counted, within the limits
-pub record AreMetAt (p : Program) (plan : Plan) (traces : List (List BrickMove)) (made : Option RunRecord) (y : Bricks) : Type 0 where
+pub record AreMetAt (p : Program) (plan : Plan) (traces : List (List BrickMove)) (made : Option RunRecord)
+    (y : Bricks) : Type 0 where
   pub settled : Bricks
   pub stage : IsSettled p plan traces settled
   pub counted : CountedPart p (bases_of plan) settled made y
@@ -83,7 +84,8 @@ abbrev pub IsMet : Program → Plan → Met → Type 0
 IsMet p plan m = AreMetAt p plan (lists m.traces.items) m.counted m.point
 
 -- phase Closed has run from such a point, and so ended
-pub record IsClosed (p : Program) (plan : Plan) (traces : List (List BrickMove)) (made : Option RunRecord) (e : Ended) : Type 0 where
+pub record IsClosed (p : Program) (plan : Plan) (traces : List (List BrickMove)) (made : Option RunRecord)
+    (e : Ended) : Type 0 where
   pub point : Bricks
   pub met : AreMetAt p plan traces made point
   pub ended : IsEnded p Closed plan point e

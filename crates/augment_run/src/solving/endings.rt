@@ -48,7 +48,8 @@ pub(crate) fn stuck(
     requires matrix { bricks.now.matrix ≡ program.now.brick }
     requires first { FirstStuck program.now bricks.now.elements brick residual point.now (lists traces.items) }
     requires within { OfBrick program.now brick (λ b. IsWithin b point.now) }
-    ensures { IfOk result (λ v. (c : Caps) → IsBasisWithin program.now.brick c.basis bricks.now.elements → IsSolved program.now c v) }
+    ensures { IfOk result (λ v. (c : Caps) → IsBasisWithin program.now.brick c.basis bricks.now.elements
+        → IsSolved program.now c v) }
 {
     prove!(program.n() > 0);
     let certificate = certificate_on_brick(alloc, program, bricks, brick, point)?;

@@ -60,7 +60,8 @@ pub(crate) fn make_plan(
     requires limits { AreAllowed settings }
     requires matrix { bricks.matrix ≡ program.now.brick }
     requires settled { (x : Bricks) × BrickStageWithin program.now (caps_of settings) bricks.elements x }
-    ensures plan { IfOk result (λ plan. (x : Bricks) → BrickStageWithin program.now (caps_of settings) bricks.elements x → IsPlan program.now x plan) }
+    ensures plan { IfOk result (λ plan. (x : Bricks) → BrickStageWithin program.now (caps_of settings) bricks.elements x
+        → IsPlan program.now x plan) }
     ensures settings { IfOk result (λ plan. plan.settings ≡ settings) }
     ensures bricks { IfOk result (λ plan. plan.bricks ≡ bricks) }
     ensures refused { IfErr result (λ stop. IsSolveFault program.now (caps_of settings) stop.fault) }
@@ -117,7 +118,8 @@ fn link_basis(
     requires links { links.now ≡ links_of program.now bricks.now.elements }
     requires narrow { All IsNarrow links.now.rows }
     requires settled { (x : Bricks) × BrickStageWithin program.now (caps_of settings) bricks.now.elements x }
-    ensures basis { IfOk result (λ b. IsBasisWithin (links_of program.now bricks.now.elements) settings.max_basis b.elements) }
+    ensures basis { IfOk result (λ b. IsBasisWithin (links_of program.now bricks.now.elements) settings.max_basis
+        b.elements) }
     ensures matrix { IfOk result (λ b. b.matrix ≡ links_of program.now bricks.now.elements) }
     ensures refused { IfErr result (λ stop. IsSolveFault program.now (caps_of settings) stop.fault) }
 {

@@ -10,18 +10,29 @@ overflow_add-cols c =
     let plan = c.args.plan.now in
     let x = c.requires.plan.0 in
     let is = c.requires.plan.1 in
-    omega (arith, c.cols.ensures.cols, c.rows.ensures, few_links p plan x is, links_wide p plan x is, links_high p plan x is, c.r.ensures.to, c.r.ensures.rows)
+    omega (
+      arith,
+      c.cols.ensures.cols,
+      c.rows.ensures,
+      few_links p plan x is,
+      links_wide p plan x is,
+      links_high p plan x is,
+      c.r.ensures.to,
+      c.r.ensures.rows,
+    )
 
 pub sum_rows-requires-clause-widths : goal.sum_rows-requires-clause-widths
 sum_rows-requires-clause-widths c =
-    wide c.args.program.now c.args.plan.now c.requires.plan.0 c.requires.plan.1 c.args.phase c.args.last.now.sums c.requires.ended.1.sums
+    wide c.args.program.now c.args.plan.now c.requires.plan.0 c.requires.plan.1 c.args.phase c.args.last.now.sums
+    c.requires.ended.1.sums
 
 pub new-requires-clause-sum_rows : goal.new-requires-clause-sum_rows
 new-requires-clause-sum_rows c =
     let p = c.args.program.now in
     let plan = c.args.plan.now in
     let e = c.requires.ended.1 in
-    let small = levels p plan c.requires.plan.0 c.requires.plan.1 c.args.phase c.args.last.now.sums e.sums c.args.last.now.bound e.bound e.low in
+    let small = levels p plan c.requires.plan.0 c.requires.plan.1 c.args.phase c.args.last.now.sums e.sums
+    c.args.last.now.bound e.bound e.low in
     subst (λ (m : Matrix). All IsSumRow m.rows) (sym c.in_ok-sums.ensures)
     (sum_rows_fit p plan c.requires.plan.0 c.requires.plan.1 c.args.phase c.args.last.now.sums e.sums small)
 

@@ -35,7 +35,8 @@ pub returns-clause-matrix : goal.returns-clause-matrix
 returns-clause-matrix c =
     let x = c.args.point.now in
     let cols = c.t.ensures.brick_cols in
-    let rows = rows_again c.n-rows.result c.t.result x c.loop-i.entries.items (count c.before) (all c.before) (wide c.before) in
+    let rows = rows_again c.n-rows.result c.t.result x c.loop-i.entries.items (count c.before) (all c.before)
+    (wide c.before) in
     c.new.ensures ∙ (λ i. record { cols = cols i; rows = rows i })
 
 pub returns-clause-bounded : goal.returns-clause-bounded

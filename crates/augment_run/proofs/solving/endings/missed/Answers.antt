@@ -11,5 +11,6 @@ certificate_on_all-requires-clause-ended c = (c.requires.missed.settled, c.requi
 
 pub returns : goal.returns
 returns c =
-    solved_missed c.args.program.now c.n.ensures.program c.args.plan.now (lists c.args.traces.items) c.args.last c.args.residual _ c.requires.missed
+    solved_missed c.args.program.now c.n.ensures.program c.args.plan.now
+    (lists c.args.traces.items) c.args.last c.args.residual _ c.requires.missed
     c.requires.residual c.requires.some c.in_ok-certificate.ensures refl

@@ -10,7 +10,8 @@ certificate_on_brick-requires-clause-from c = omega (arith, c.requires.first.num
 pub returns : goal.returns
 returns c = λ caps within.
     let traces = lists c.args.traces.items in
-    solved_stuck c.args.program.now caps c.args.bricks.now.elements c.args.brick c.args.residual c.args.point.now traces _
+    solved_stuck c.args.program.now caps c.args.bricks.now.elements c.args.brick c.args.residual c.args.point.now traces
+    _
     c.n.ensures.program within c.requires.first (λ i. record {
       verdict = InfeasibleBrick c.args.brick c.args.residual;
       point = None;

@@ -12,7 +12,8 @@ complexity-requires-clause-basis c =
 
 pub complexity-requires-clause-rows : goal.complexity-requires-clause-rows
 complexity-requires-clause-rows c =
-    c.relations.ensures.size ∙ sym (links_high c.args.program.now c.args.plan.now.bricks.elements c.args.plan.now.links c.requires.1.links)
+    c.relations.ensures.size
+    ∙ sym (links_high c.args.program.now c.args.plan.now.bricks.elements c.args.plan.now.links c.requires.1.links)
 
 pub returns-clause-bound : goal.returns-clause-bound
 returns-clause-bound c =

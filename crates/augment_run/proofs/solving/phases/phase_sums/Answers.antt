@@ -16,7 +16,9 @@ pub returns-in-Ok-clause-sums : goal.returns-in-Ok-clause-sums
 returns-in-Ok-clause-sums c =
     let is = c.requires.begun.1.tables in
     record {
-      all = subst (λ n. AreSums c.args.program.now.brick.cols (generators c.args.program.now c.args.plan.now.bricks.elements) n c.in-Ok.sums) c.requires.bound
+      all =
+          subst (λ n. AreSums c.args.program.now.brick.cols
+          (generators c.args.program.now c.args.plan.now.bricks.elements) n c.in-Ok.sums) c.requires.bound
           (subst (λ (m : Matrix). AreSums m.cols m.rows c.args.bound c.in-Ok.sums) is.kernel c.in-Ok.ensures.sums);
       few = c.in-Ok.ensures.few;
     }
@@ -27,5 +29,6 @@ returns-in-Err-Limit-clause-refused c =
     let plan = c.args.plan.now in
     let exceeds = rw c.in-Err-Limit.field-0-is at c.in-Err-Limit.ensures.refused in
     sums_limit c.args.program.now c.args.phase plan c.requires.begun.0 c.requires.begun.1
-    (subst (λ n. ExceedsSumsOf c.args.program.now.brick.cols (generators c.args.program.now plan.bricks.elements) n plan.settings.max_sums) c.requires.bound
+    (subst (λ n. ExceedsSumsOf c.args.program.now.brick.cols (generators c.args.program.now plan.bricks.elements) n
+    plan.settings.max_sums) c.requires.bound
     (subst (λ (m : Matrix). ExceedsSumsOf m.cols m.rows c.args.bound plan.settings.max_sums) is.kernel exceeds))
