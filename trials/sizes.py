@@ -359,6 +359,11 @@ def breakpoints():
         Run("point t", out=f"feasible\ncost {cost}\n"),
         Run("solve t", out=f"optimal\ncost 0\n" + plain.matrix_text([[0]] * n, 1)),
     ], nodes=3 * (n + 1), sums=3, lengths=10)
+    n = 6_000
+    many = program_of([], [], 1, [[-499]] * n, [[500]] * n, [], [[]] * n, [[curve]] * n)
+    files = {**text_of(many), "t.pt": plain.matrix_text([[-499]] * n, 1)}
+    assert FILE * 9 // 10 < len(files["t.cost"]) <= FILE
+    yield Case("6,000,000 breakpoints", files, [Run("point t", out=f"feasible\ncost {499 * 499 * n}\n")])
     files = text_of(one_variable(0, 1, ZERO))
     longer = "1 1\np 1001 " + " ".join(f"{v} 0" for v in range(1001)) + "\n"
     yield refused("1,001 breakpoints", {**files, "t.cost": longer}, "point t", "input: t.cost: syntax at 6")
@@ -434,7 +439,8 @@ def trials():
             out = case.seen[0][1]
             return "" if out.startswith(head) and out.endswith(" check yes\n") else f"got {out!r}"
 
-        yield Case(f"a trial of {customers} customers", {}, [Run(f"trial {number} {customers}", out=None)], then,
+        out = "trial number 0 bricks 1 optimal cost 12 made 1 check yes\n" if customers == 1 else None
+        yield Case(f"a trial of {customers} customers", {}, [Run(f"trial {number} {customers}", out=out)], then,
                    nodes=37 * (customers + 1), sums=37, lengths=3, large=large)
 
 
@@ -459,21 +465,28 @@ print(status, usage.ru_maxrss)
 """
 
 
-def allowed(case, folder):
-    """How many bytes a run may take by docs/FORMATS.md, and 16 MB for the process and a MB for each worker.
-
-    A list that grows has up to twice the room that it needs, and the file that is read up to three times.
-    """
-    longest = tokens = 0
+def held(folder):
+    """How many bytes what the files spell may take, in lists with twice the room, and the longest while it is read."""
+    longest = entries = 0
     for name in os.listdir(folder):
-        if not name.startswith("."):
-            longest = max(longest, os.path.getsize(os.path.join(folder, name)))
-            with open(os.path.join(folder, name), encoding="ascii") as file:
-                tokens += sum(len(line.split()) for line in file)
+        if name.startswith("."):
+            continue
+        longest = max(longest, os.path.getsize(os.path.join(folder, name)))
+        each = 64 if name.endswith(".cert") else 16
+        with open(os.path.join(folder, name), encoding="ascii") as file:
+            for line in file:
+                entries += each * len(line.split())
+                if name.endswith(".cost"):
+                    entries += 192 * (line.count("q") + line.count("p"))
+    return 3 * longest + entries
+
+
+def allowed(case, folder):
+    """How many bytes a run may take by docs/FORMATS.md, and 16 MB for the process and a MB for each worker."""
     bases = 48 * case.members**2
     kept = 64 * min(2**22, case.nodes * case.lengths)
     workers = (96 * case.nodes + 2**20) * case.workers
-    return 2**24 + 3 * longest + 64 * tokens + bases + 8 * case.sums**2 + max(kept + workers, 320 * case.nodes)
+    return 2**24 + held(folder) + bases + 8 * case.sums**2 + max(kept + workers, 320 * case.nodes)
 
 
 def call(binary, folder, words, seconds):
