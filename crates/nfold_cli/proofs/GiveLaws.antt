@@ -1,5 +1,5 @@
 -- How an answer is given: stored and written, or said, or neither whole.
-use Rattle.std.proofs.Common.{◌≡◌, ◌≢◌, ℕ, ◌⊎◌, List, [], Option, Some, None, refl, sym, subst, ◌∙◌, inl, inr}
+use Rattle.std.proofs.Common.{◌≡◌, ℕ, ◌⊎◌, List, [], Option, Some, None, refl, sym, subst, ◌∙◌, inl, inr}
 use Rattle.std.proofs.lemmas.List.{append-nil}
 use Rattle.fold_shelf.specs.Outside.{File, Folder, Stream, OnlyReads, Rose, ForTold, IsTold, ForBoth, Took, TookPart}
 use Rattle.nfold_cli.specs.declared.status.Status.{Status}
@@ -8,7 +8,8 @@ use Rattle.nfold_cli.specs.Texts.{write_text, memory_text}
 use Rattle.nfold_cli.specs.Words.{FormValue}
 use Rattle.nfold_cli.specs.Endings.{Ending, IsWritten, IsRefusal}
 use Rattle.nfold_cli.specs.Running.{Stores, StoresPart, Said}
-use Rattle.nfold_cli.specs.Answers.{IsToldAnswer, IsAnswer, IsOfForm, IsOfEnding, Scene, IsUntouched, IsPart, FailsGiving, IsSaid, IsLineOf, IsOutOfMemory, Gives}
+use Rattle.nfold_cli.specs.Answers.{IsToldAnswer, IsAnswer, IsOfForm, IsOfEnding, Scene, IsUntouched, IsPart}
+use Rattle.nfold_cli.specs.Answers.{FailsGiving, IsSaid, IsLineOf, IsOutOfMemory, Gives}
 
 -- a line that was said whole was said in part
 took_part : (text before now : List ℕ) → Took text before now → TookPart text before now

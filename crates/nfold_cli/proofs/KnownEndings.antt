@@ -1,5 +1,5 @@
 -- The ending of a run at files worked by hand: a program of two bricks, and points of it.
-use Rattle.std.specs.Prelude.{◌≡◌, ℕ, List, [], ◌∷◌, ◌++◌, codes, refl}
+use Rattle.std.specs.Prelude.{ℕ, List, [], ◌∷◌, ◌++◌, codes, refl}
 use Rattle.std.specs.Fmt.{digits}
 use Rattle.fold_shelf.specs.Outside.{File, without}
 use Rattle.nfold_cli.specs.declared.status.Status.TheVariants as status

@@ -1,11 +1,11 @@
 -- The texts of `solve` and `trial` at the program of two bricks, worked by hand.
-use Rattle.std.specs.Prelude.{◌≡◌, true, false, List, [], ◌∷◌, ◌++◌, pos, neg_ℤ, Some, None, codes, refl}
+use Rattle.std.specs.Prelude.{◌≡◌, true, false, [], ◌∷◌, ◌++◌, pos, neg_ℤ, Some, None, codes, refl}
 use Rattle.std.specs.Fmt.{digits}
 use Rattle.fold_theory.specs.declared.Phase.TheVariants.{Closed, Counted}
 use Rattle.fold_theory.specs.declared.Verdict.TheVariants.{Optimal, InfeasibleBrick}
 use Rattle.run_theory.specs.declared.SolveFault.TheVariants as limit
 use Rattle.run_theory.specs.BrickRuns.{BrickMove}
-use Rattle.run_theory.specs.Outcomes.{Step, RunRecord, Outcome}
+use Rattle.run_theory.specs.Outcomes.{RunRecord, Outcome}
 use Rattle.cert_checker.specs.declared.answer.Check.TheVariants as check
 use Rattle.nfold_cli.specs.RunTexts.{outcome_text, trial_text, limit_text}
 
@@ -72,6 +72,7 @@ a_trial = refl
 
 pub limits : limit_text limit.BrickBasis ++ limit_text (limit.LinkEntry 1 4) ++ limit_text limit.LinkBasis ++ limit_text
     (limit.Sums Counted) ++ limit_text (limit.Table Closed)
-    ≡ codes "limit: brick-basis\nlimit: link-entry row 1 column 4\nlimit: link-basis\nlimit: sums counted\nlimit: table closed\n"
+    ≡ codes "limit: brick-basis\nlimit: link-entry row 1 column 4\nlimit: link-basis\n"
+    ++ codes "limit: sums counted\nlimit: table closed\n"
 unfolding digits
 limits = refl

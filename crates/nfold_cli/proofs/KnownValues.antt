@@ -5,7 +5,8 @@ use Rattle.fold_theory.specs.declared.Broken.TheVariants.{Below, Above, BrickRow
 use Rattle.mat_files.specs.declared.fault.MatFault.TheVariants as mat
 use Rattle.convex_costs.specs.declared.fault.CostFault.TheVariants as cost
 use Rattle.nfold_cli.specs.Words.{Word, PointForm, GraverForm, SolveForm, CheckForm, TrialForm, form_of}
-use Rattle.nfold_cli.specs.Texts.{point_text, at_byte, at_column, mat_fault_text, cost_fault_text, input_text, read_text}
+use Rattle.nfold_cli.specs.Texts.{point_text, at_byte, at_column, mat_fault_text}
+use Rattle.nfold_cli.specs.Texts.{cost_fault_text, input_text, read_text}
 
 -- ---- words
 
@@ -192,7 +193,8 @@ slope_not_whole = refl
 
 pub cost_faults : cost_fault_text 1 2 (cost.NotRising 3) ++ cost_fault_text 4 5 (cost.NotConvex 0) ++ cost_fault_text 6
     7 cost.NotCovered ++ cost_fault_text 8 9 cost.TooLarge
-    ≡ codes "not-rising at brick 1 column 2 point 3not-convex at brick 4 column 5 point 0not-covered at brick 6 column 7too-large at brick 8 column 9"
+    ≡ codes "not-rising at brick 1 column 2 point 3not-convex at brick 4 column 5 point 0"
+    ++ codes "not-covered at brick 6 column 7too-large at brick 8 column 9"
 unfolding digits
 cost_faults = refl
 

@@ -1,8 +1,11 @@
 -- The words of a line, one after the other.
-use Rattle.std.proofs.Common.{◌≡◌, ◌≢◌, ◌⊎◌, inl, inr, ◌-◌, ◌<◌, ◌≤◌, Bool, true, false, ◌&&◌, not, cond, List, [], ◌∷◌, length, take, drop, map, get_or, Option, Some, None, is_none, refl, ap, subst, ◌∙◌, ℕ, arith, length-drop, codes}
+use Rattle.std.proofs.Common.{◌≡◌, ◌-◌, ◌<◌, ◌≤◌, Bool, true, false, ◌&&◌, not, cond, List}
+use Rattle.std.proofs.Common.{[], ◌∷◌, length, take, drop, map, get_or, Option, Some, None, refl, ap}
+use Rattle.std.proofs.Common.{subst, ◌∙◌, ℕ, arith, length-drop, codes}
 use Rattle.std.proofs.lemmas.List.{take_all}
 use Rattle.nfold_cli.specs.declared.words.Options.{Options}
-use Rattle.nfold_cli.specs.Words.{Word, FormValue, is_word, is_prefix, number_within, with_flag, with_number, options_in, no_options, command_form, form_with, trial_with, trial_form, form_of}
+use Rattle.nfold_cli.specs.Words.{Word, FormValue, is_word, is_prefix, with_flag, with_number}
+use Rattle.nfold_cli.specs.Words.{options_in, no_options, command_form, form_of}
 
 -- a test on an option that is there already fails
 pub not_again : (test there : Bool) → there ≡ true → (test && not there) ≡ false

@@ -1,7 +1,6 @@
 -- How a run ends, by what its words ask for: its status, its text, and the file that it stores before.
 use Rattle.std.specs.Prelude.{◌≡◌, ℕ, List, [], ◌++◌, Option, None, Result, Ok, Err, codes}
 use Rattle.fold_shelf.specs.Outside.{File}
-use Rattle.convex_costs.specs.declared.CostFault.{CostFault}
 use Rattle.fold_program.specs.declared.FileKind.{FileKind}
 use Rattle.fold_program.specs.declared.FileKind.TheVariants as file
 use Rattle.fold_program.specs.declared.ProgramFault.{ProgramFault}
@@ -11,7 +10,8 @@ use Rattle.fold_files.specs.declared.ReadFault.{ReadFault}
 use Rattle.fold_files.specs.declared.ReadFault.TheVariants as read
 use Rattle.nfold_cli.specs.declared.status.Status.{Status}
 use Rattle.nfold_cli.specs.declared.status.Status.TheVariants as status
-use Rattle.nfold_cli.specs.Texts.{at_byte, at_column, mat_fault_text, cost_fault_text, input_text, read_text, memory_text}
+use Rattle.nfold_cli.specs.Texts.{at_byte, at_column, mat_fault_text, cost_fault_text}
+use Rattle.nfold_cli.specs.Texts.{input_text, read_text, memory_text}
 
 -- the status that a run answers, the text that it writes, and the file that it stores before its text
 pub record Ending : Type 0 where

@@ -1,9 +1,8 @@
 -- How a run ends, by the form that its words are: a line for each form.
-use Rattle.std.specs.Prelude.{◌≡◌, ℕ, List, Option, Some, None, Result, Ok}
+use Rattle.std.specs.Prelude.{◌≡◌, List, Option, Some, None, Result, Ok}
 use Rattle.fold_shelf.specs.Outside.{File}
 use Rattle.fold_files.specs.declared.ReadFault.{ReadFault}
 use Rattle.fold_files.specs.Reading.{plain_in, program_in}
-use Rattle.nfold_cli.specs.declared.status.Status.{Status}
 use Rattle.nfold_cli.specs.declared.status.Status.TheVariants as status
 use Rattle.nfold_cli.specs.Texts.{usage_text}
 use Rattle.nfold_cli.specs.Words.{Word, FormValue, PointForm, GraverForm, SolveForm, CheckForm, TrialForm, form_of}

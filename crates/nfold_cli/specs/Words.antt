@@ -1,5 +1,6 @@
 -- The words of the command line: which of the forms they are.
-use Rattle.std.specs.Prelude.{ℕ, ◌≤◌, nat_eq, nat_le, Bool, true, false, ◌&&◌, ◌||◌, not, List, [], ◌∷◌, length, slice_index, cond, Option, Some, None, is_none, unwrap_or, IfSome, codes}
+use Rattle.std.specs.Prelude.{ℕ, ◌≤◌, nat_eq, nat_le, Bool, true, false, ◌&&◌, ◌||◌, not, List, [], ◌∷◌, length}
+use Rattle.std.specs.Prelude.{slice_index, cond, Option, Some, None, is_none, unwrap_or, IfSome, codes}
 use Rattle.std.specs.Char.{is_ascii_alphanumeric}
 use Rattle.std.specs.Cmp.Lexicographic.{pointwise}
 use Rattle.std.specs.List.{list_all}
@@ -124,8 +125,8 @@ has_relations_at_most o = is_none o.workers && is_none o.basis && is_none o.sums
 abbrev pub has_a_basis_at_most : Options → Bool
 has_a_basis_at_most o = is_none o.workers && is_none o.sums && not o.relations && not o.trace
 
--- what the options ask of a solve; a basis has at most 500 elements and there are at most 5,000 sums where no option says
--- it
+-- what the options ask of a solve; a basis has at most 500 elements and there are at most 5,000 sums where no option
+-- says it
 abbrev pub of_a_solve : Options → SolveOptions
 of_a_solve o = record {
   basis = unwrap_or o.basis 500;
@@ -139,12 +140,13 @@ abbrev pub allowed : Bool → FormValue → Option FormValue
 allowed may form = cond may (Some form) None
 
 -- the form of a command with this prefix and these options: `point P [--rel]`, `graver M [--max-basis B]`,
--- `solve P [--workers W] [--max-basis B] [--max-sums Q] [--rel] [--trace]` and `check P [--rel]`; there is one worker, and
--- a basis has at most 500 elements, where no option says it
+-- `solve P [--workers W] [--max-basis B] [--max-sums Q] [--rel] [--trace]` and `check P [--rel]`; there is one worker,
+-- and a basis has at most 500 elements, where no option says it
 abbrev pub command_form : Word → Word → Options → Option FormValue
 command_form command prefix o =
     cond (is_word command (codes "point")) (allowed (has_relations_at_most o) (PointForm prefix o.relations))
-    (cond (is_word command (codes "graver")) (allowed (has_a_basis_at_most o) (GraverForm prefix (unwrap_or o.basis 500)))
+    (cond (is_word command (codes "graver"))
+    (allowed (has_a_basis_at_most o) (GraverForm prefix (unwrap_or o.basis 500)))
     (cond (is_word command (codes "solve")) (Some (SolveForm prefix (unwrap_or o.workers 1) (of_a_solve o)))
     (cond (is_word command (codes "check")) (allowed (has_relations_at_most o) (CheckForm prefix o.relations)) None)))
 

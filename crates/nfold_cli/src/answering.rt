@@ -22,7 +22,8 @@ pub(crate) fn answer_words<R: Threads + Sync, S: Shelf, G: Gate>(
     shelf: &mut S,
     gate: &G,
 ) -> Result<Answer, AllocError>
-    ensures answer { IfOk result (IsAnswer (specs.form_of (map (λ w. w.items) words.now)) (S.seen shelf.old) (S.seen shelf.new)) }
+    ensures answer { IfOk result
+        (IsAnswer (specs.form_of (map (λ w. w.items) words.now)) (S.seen shelf.old) (S.seen shelf.new)) }
     ensures reads { OnlyReads (S.seen shelf.old) (S.seen shelf.new) }
 {
     match form_of(words) {

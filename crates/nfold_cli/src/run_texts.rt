@@ -30,8 +30,8 @@ pub fn brick_step_text(
     Ok(text)
 }
 
-/// The line on a step of a phase: its length `2^k`, its gain, and its part in each brick that it changes, `cols` entries
-/// for each.
+/// The line on a step of a phase: its length `2^k`, its gain, and its part in each brick that it changes, `cols`
+/// entries for each.
 pub fn step_text(alloc: Global, phase: Phase, cols: u32, step: &Step) -> Result<Vec<u8>, AllocError>
     requires { step.now.k < 64 }
     ensures { IfOk result (λ t. t.items ≡ specs.step_text phase cols step.now) }

@@ -3,7 +3,8 @@
 ghost use Rattle.std.specs.Prelude.{◌≡◌, ◌++◌, All, IfOk, flat_map};
 ghost use Rattle.phase_one.specs.Started.{lists};
 ghost use Rattle.nfold_cli.specs.RunTexts as specs;
-ghost use Rattle.nfold_cli.specs.SolvedTexts.{AreShort, AreShortSteps, IsShortRun, HasShortSteps, solved_outcome, trace_text};
+ghost use Rattle.nfold_cli.specs.SolvedTexts.{AreShort, AreShortSteps, IsShortRun, HasShortSteps};
+ghost use Rattle.nfold_cli.specs.SolvedTexts.{solved_outcome, trace_text};
 
 use crate::run_texts::{brick_step_text, made_text, step_text};
 use crate::texts::{verdict_text, with_number};
@@ -18,7 +19,8 @@ use std::alloc::{AllocError, Global};
 /// above `2^63`.
 pub fn solved_text(alloc: Global, solved: &Solved, trace: bool) -> Result<Vec<u8>, AllocError>
     requires { HasShortSteps solved.now }
-    ensures { IfOk result (λ t. t.items ≡ specs.outcome_text solved.now.certificate.point.cols trace (solved_outcome solved.now)) }
+    ensures { IfOk result (λ t. t.items ≡
+        specs.outcome_text solved.now.certificate.point.cols trace (solved_outcome solved.now)) }
 {
     let answer = answer_text(alloc, solved.verdict, solved.certificate.point())?;
     if !trace {

@@ -43,8 +43,8 @@ const MOST_BRICKS: u32 = 10_000;
 /// any order, each at most once.
 #[derive(Clone, Copy, Debug, PartialEq, Eq, Drop)]
 pub enum Form<'a> {
-    /// `point P [--rel]`: whether the point is feasible, and its cost. With the option each linking row has the relation
-    /// in the file of relations, and else all are equations.
+    /// `point P [--rel]`: whether the point is feasible, and its cost. With the option each linking row has the
+    /// relation in the file of relations, and else all are equations.
     Point {
         prefix: &'a str,
         relations: bool,

@@ -7,7 +7,8 @@ ghost use Rattle.cert_checker.specs.Answers.{checked};
 ghost use Rattle.nfold_cli.specs.Texts.{cert_fault_text};
 ghost use Rattle.nfold_cli.specs.Words.{CheckForm};
 ghost use Rattle.nfold_cli.specs.Endings.{input_ending};
-ghost use Rattle.nfold_cli.specs.CheckCommand.{claimed_in, checked_status, checked_ending, certificate_ending, IsTrueCheck, IsShown};
+ghost use Rattle.nfold_cli.specs.CheckCommand.{claimed_in, checked_status, checked_ending};
+ghost use Rattle.nfold_cli.specs.CheckCommand.{certificate_ending, IsTrueCheck, IsShown};
 ghost use Rattle.nfold_cli.specs.Answers.{IsAnswer};
 
 use crate::answer::Answer;
@@ -28,7 +29,8 @@ pub(crate) fn answer_check<S: Shelf>(
     prefix: &str,
     relations: bool,
 ) -> Result<Answer, AllocError>
-    ensures answer { IfOk result (IsAnswer (Some (CheckForm prefix.now relations)) (S.seen shelf.old) (S.seen shelf.new)) }
+    ensures answer { IfOk result
+        (IsAnswer (Some (CheckForm prefix.now relations)) (S.seen shelf.old) (S.seen shelf.new)) }
     ensures reads { OnlyReads (S.seen shelf.old) (S.seen shelf.new) }
 {
     match read_claimed(alloc, shelf, prefix, relations) {
@@ -44,8 +46,10 @@ fn read_claimed<S: Shelf>(
     prefix: &str,
     relations: bool,
 ) -> Result<(Program, Vec<u8>), ReadFault>
-    ensures claimed { IfOk result (λ both. ForTold (S.seen shelf.old).files (λ fs. claimed_in prefix.now relations fs ≡ Ok (record { program = both.0; bytes = both.1.items }))) }
-    ensures refused { IfErr result (IsReadCause (λ fs. claimed_in prefix.now relations fs) (S.seen shelf.old) (S.seen shelf.new) prefix.now) }
+    ensures claimed { IfOk result (λ both. ForTold (S.seen shelf.old).files (λ fs.
+        claimed_in prefix.now relations fs ≡ Ok (record { program = both.0; bytes = both.1.items }))) }
+    ensures refused { IfErr result
+        (IsReadCause (λ fs. claimed_in prefix.now relations fs) (S.seen shelf.old) (S.seen shelf.new) prefix.now) }
     ensures reads { OnlyReads (S.seen shelf.old) (S.seen shelf.new) }
 {
     let program = read_program(alloc, shelf, prefix, relations)?;
@@ -95,7 +99,8 @@ fn status_of(answer: Check) -> Status
 
 /// The answer where the file of the certificate spells none.
 fn refused_certificate(alloc: Global, prefix: &str, fault: CertFault) -> Result<Answer, AllocError>
-    ensures { IfOk result (λ a. (fault.kind ≢ CertKind.Memory) × (a ≡ input_ending prefix.now FileKind.Cert (cert_fault_text fault))) }
+    ensures { IfOk result (λ a. (fault.kind ≢ CertKind.Memory)
+        × (a ≡ input_ending prefix.now FileKind.Cert (cert_fault_text fault))) }
 {
     if fault.kind == CertKind::Memory {
         return Err(AllocError);

@@ -24,7 +24,8 @@ pub(crate) fn answer_point<S: Shelf>(
     prefix: &str,
     relations: bool,
 ) -> Result<Answer, AllocError>
-    ensures answer { IfOk result (IsAnswer (Some (PointForm prefix.now relations)) (S.seen shelf.old) (S.seen shelf.new)) }
+    ensures answer { IfOk result
+        (IsAnswer (Some (PointForm prefix.now relations)) (S.seen shelf.old) (S.seen shelf.new)) }
     ensures reads { OnlyReads (S.seen shelf.old) (S.seen shelf.new) }
 {
     match read_pointed(alloc, shelf, prefix, relations) {
@@ -40,9 +41,11 @@ fn read_pointed<S: Shelf>(
     prefix: &str,
     relations: bool,
 ) -> Result<(Program, Point), ReadFault>
-    ensures pointed { IfOk result (λ both. ForTold (S.seen shelf.old).files (λ fs. pointed_in prefix.now relations fs ≡ Ok (record { program = both.0; point = both.1 }))) }
+    ensures pointed { IfOk result (λ both. ForTold (S.seen shelf.old).files (λ fs.
+        pointed_in prefix.now relations fs ≡ Ok (record { program = both.0; point = both.1 }))) }
     ensures shape { IfOk result (λ both. HasPointShape both.0 both.1) }
-    ensures refused { IfErr result (IsReadCause (λ fs. pointed_in prefix.now relations fs) (S.seen shelf.old) (S.seen shelf.new) prefix.now) }
+    ensures refused { IfErr result
+        (IsReadCause (λ fs. pointed_in prefix.now relations fs) (S.seen shelf.old) (S.seen shelf.new) prefix.now) }
     ensures reads { OnlyReads (S.seen shelf.old) (S.seen shelf.new) }
 {
     let program = read_program(alloc, shelf, prefix, relations)?;

@@ -1,4 +1,4 @@
-use Rattle.std.proofs.Common.{◌≡◌, ℕ, List, Bor, true, cond, Some, None, sym, ap, ◌∙◌, map, codes, arith}
+use Rattle.std.proofs.Common.{ℕ, List, Bor, sym, ap, ◌∙◌, map, codes, arith}
 use Rattle.std.specs.Option.{option_map}
 use Rattle.nfold_cli.specs.Words.{is_word, is_prefix, options_in, no_options, command_form}
 use Rattle.nfold_cli.proofs.WordLaws.{prefix_found, rest_whole, few_words, form_found}

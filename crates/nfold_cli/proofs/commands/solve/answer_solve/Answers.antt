@@ -1,4 +1,3 @@
-use Rattle.std.proofs.Common.{Some}
 use Rattle.fold_files.specs.Reading.{program_in}
 use Rattle.nfold_cli.specs.Words.{SolveForm}
 use Rattle.nfold_cli.specs.SolveCommand.{IsSolveEnding, IsTrueSolve}

@@ -1,5 +1,4 @@
-use Rattle.std.proofs.Common.{◌≡◌, Ok, sym, ap, ◌∙◌}
-use Rattle.run_theory.specs.Certificates.{Certificate}
+use Rattle.std.proofs.Common.{sym, ap, ◌∙◌}
 use Rattle.certificate.specs.CertificateText.{parsed_certificate}
 use Rattle.nfold_cli.proofs.SolvedLaws.{same_value}
 use Rattle.nfold_cli.proofs.commands.trial.read_back.Goals as goal
