@@ -1,6 +1,7 @@
 //! The top call over files in memory.
 
 mod hostile;
+mod sizes;
 mod solving;
 mod workers;
 

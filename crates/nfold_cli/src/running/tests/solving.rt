@@ -307,6 +307,11 @@ fn expect_trial(
 fn a_trial_is_solved_and_checked(rt: HostRuntime) -> Result<(), Fail> {
     expect_trial(
         &rt,
+        "trial 0 1",
+        "trial number 0 bricks 1 optimal cost 12 made 1 check yes\n",
+    )?;
+    expect_trial(
+        &rt,
         "trial 1 1",
         "trial number 1 bricks 1 optimal cost 6 made 0 check yes\n",
     )?;
