@@ -6,6 +6,7 @@ pub mod WordLaws
 pub mod EndingLaws
 pub mod TraceLaws
 pub mod ShortLaws
+pub mod StepCountLaws
 pub mod SolvedLaws
 pub mod TrialLaws
 pub mod AnswerLaws

@@ -1,22 +1,24 @@
 -- What was solved is the outcome of the program, with its certificate; and what is made of it is an ending of `solve`.
-use Rattle.std.proofs.Common.{◌≡◌, ◌≢◌, ℕ, ◌^◌, ◌≤◌, List, Option, All, Result, Ok, Err, IfOk, refl, ap, sym, subst, ◌∙◌, inl, inr}
+use Rattle.std.proofs.Common.{◌≡◌, ◌≢◌, ◌^◌, ◌≤◌, List, Option, All, Result, Ok, Err}
+use Rattle.std.proofs.Common.{IfOk, refl, ap, sym, subst, ◌∙◌, inl, inr}
 use Rattle.fold_theory.specs.declared.Verdict.{Verdict}
-use Rattle.fold_theory.specs.Programs.{Program, Bricks, widest}
+use Rattle.fold_theory.specs.Programs.{Program, IsProgram, Bricks, widest}
 use Rattle.run_theory.specs.declared.SolveFault.{SolveFault}
 use Rattle.run_theory.specs.declared.SolveFault.TheVariants as fault
 use Rattle.run_theory.specs.BrickRuns.{BrickMove}
 use Rattle.run_theory.specs.Certificates.{Certificate}
-use Rattle.run_theory.specs.Outcomes.{Outcome, RunRecord, point_matrix}
+use Rattle.run_theory.specs.Outcomes.{Outcome, RunRecord}
 use Rattle.run_theory.specs.Limits.{Caps, IsLimit}
 use Rattle.run_theory.specs.Solved.{SolvedValue, solved_value}
 use Rattle.augment_run.specs.Solving.{IsSolved, IsSolveFault}
 use Rattle.nfold_cli.specs.declared.words.SolveOptions.{SolveOptions}
-use Rattle.nfold_cli.specs.declared.status.Status.TheVariants as status
 use Rattle.nfold_cli.specs.Words.{Word}
 use Rattle.nfold_cli.specs.Endings.{Ending}
 use Rattle.nfold_cli.specs.SolvedTexts.{AreShort, IsShortRun, HasShortSteps, solved_outcome}
-use Rattle.nfold_cli.specs.SolveCommand.{caps_of, limit_ending, solved_ending, IsEndingWithin, IsSolveEnding, IsTrueEnding, IsTrueSolve}
+use Rattle.nfold_cli.specs.SolveCommand.{caps_of, limit_ending, solved_ending, IsEndingWithin}
+use Rattle.nfold_cli.specs.SolveCommand.{IsSolveEnding, IsTrueEnding, IsTrueSolve}
 use Rattle.nfold_cli.proofs.ShortLaws.{outcome_short}
+use Rattle.nfold_cli.proofs.StepCountLaws.{outcome_told}
 
 abbrev outcome_with : Verdict → Bricks → List (List BrickMove) → Option RunRecord → Option RunRecord → Outcome
 outcome_with v x ts a b = record { verdict = v; point = x; traces = ts; counted = a; closed = b }
@@ -58,9 +60,9 @@ module _ (p : Program) (caps : Caps) (v : SolvedValue) (solved : IsSolved p caps
         closed = subst IsShortRun (sym (ap (λ (u : SolvedValue). u.closed) is)) short.closed;
       }
 
-  pub found : (ending_of : Certificate → Outcome → Ending) (e : Ending)
+  pub found : IsProgram p → (ending_of : Certificate → Outcome → Ending) (e : Ending)
       → e ≡ ending_of v.certificate (solved_outcome v) → IsFound p caps ending_of e
-  found ending_of e is =
+  found program ending_of e is =
       let made : e ≡ ending_of v.certificate solved.outcome = is ∙ ap (ending_of v.certificate) outcome_is in
       record {
         ends =
@@ -82,13 +84,15 @@ module _ (p : Program) (caps : Caps) (v : SolvedValue) (solved : IsSolved p caps
             certificate = solved.certificate;
             accepted = solved.accepted;
             holds = solved.holds;
+            told = outcome_told p program solved.outcome solved.is;
           },
           made,
         );
       }
 
 -- a limit that is passed
-pub limit_passed : (p : Program) (caps : Caps) (f : SolveFault) → f ≢ fault.Memory → IsSolveFault p caps f → IsLimit p caps f
+pub limit_passed : (p : Program) (caps : Caps) (f : SolveFault) → f ≢ fault.Memory → IsSolveFault p caps f
+    → IsLimit p caps f
 limit_passed p caps fault.BrickBasis found passed = passed
 limit_passed p caps (fault.LinkEntry row col) found passed = passed
 limit_passed p caps fault.LinkBasis found passed = passed
@@ -115,13 +119,13 @@ all_found (Ok e) p caps ending_of P so is = ((so e is).ends, (so e is).holds)
 
 pub solve_found : {E : Type 0} (r : Result Ending E) (p : Program) (prefix : Word) (options : SolveOptions)
     (v : SolvedValue)
-    → IsSolved p (caps_of options) v
+    → IsProgram p → IsSolved p (caps_of options) v
     → IfOk r (λ e. e ≡ solved_ending prefix options.trace v.certificate.point.cols v.certificate (solved_outcome v))
     → IfOk r (IsSolveEnding prefix options p) × IfOk r (IsTrueSolve prefix options p)
-solve_found r p prefix options v solved made =
+solve_found r p prefix options v program solved made =
     let ending_of : Certificate → Outcome → Ending = solved_ending prefix options.trace p.brick.cols in
     all_found r p (caps_of options) ending_of _
-    (λ e is. found p (caps_of options) v solved ending_of e
+    (λ e is. found p (caps_of options) v solved program ending_of e
     (is ∙ ap (λ t. solved_ending prefix options.trace t v.certificate (solved_outcome v))
     (columns_are p (caps_of options) v solved))) made
 

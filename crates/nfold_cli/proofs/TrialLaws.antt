@@ -1,6 +1,6 @@
 -- What is made of a transport program that was solved is the line of a trial; and no limit of it is passed.
-use Rattle.std.proofs.Common.{◌≡◌, ◌≢◌, ℕ, ◌≤◌, Result, Ok, Err, IfOk, arith, sym, subst, inl, inr}
-use Rattle.fold_theory.specs.Programs.{Program}
+use Rattle.std.proofs.Common.{◌≡◌, ◌≢◌, ℕ, ◌≤◌, Result, Ok, Err, IfOk, arith, subst, inl, inr}
+use Rattle.fold_theory.specs.Programs.{Program, IsProgram}
 use Rattle.run_theory.specs.declared.SolveFault.{SolveFault}
 use Rattle.run_theory.specs.declared.SolveFault.TheVariants as fault
 use Rattle.run_theory.specs.Solved.{SolvedValue}
@@ -18,24 +18,25 @@ module _ (number bricks : ℕ) where
   p = transport number bricks
 
   -- the ending of what was solved is the line of a trial, and what it says is true
-  trial_found : (v : SolvedValue) (e : Ending) → IsSolved p trial_caps v
+  trial_found : (v : SolvedValue) (e : Ending) → IsProgram p → IsSolved p trial_caps v
       → e ≡ tried_ending number bricks p v.certificate (solved_outcome v)
       → IsTrialEnding number bricks e × IsTrueTrial number bricks e
-  trial_found v e solved is = (by all.ends, all.holds)
+  trial_found v e program solved is = (by all.ends, all.holds)
     where
       all : IsFound p trial_caps (tried_ending number bricks p) e
-      all = found p trial_caps v solved (tried_ending number bricks p) e is
+      all = found p trial_caps v solved program (tried_ending number bricks p) e is
 
       by : IsEndingWithin p trial_caps (tried_ending number bricks p) e → IsTrialEnding number bricks e
       by (inl (f, passed, line)) = absurd (solved.within f passed)
       by (inr outcome) = outcome
 
   pub tried_found : {E : Type 0} (r : Result Ending E) (q : Program) (v : SolvedValue) → q ≡ p
-      → IsSolved q trial_caps v → IfOk r (λ e. e ≡ tried_ending number bricks q v.certificate (solved_outcome v))
+      → IsProgram q → IsSolved q trial_caps v
+      → IfOk r (λ e. e ≡ tried_ending number bricks q v.certificate (solved_outcome v))
       → IfOk r (IsTrialEnding number bricks) × IfOk r (IsTrueTrial number bricks)
-  tried_found (Err x) q v same solved made = (tt, tt)
-  tried_found (Ok e) q v same solved made =
-      trial_found v e (subst (λ (a : Program). IsSolved a trial_caps v) same solved)
+  tried_found (Err x) q v same program solved made = (tt, tt)
+  tried_found (Ok e) q v same program solved made =
+      trial_found v e (subst IsProgram same program) (subst (λ (a : Program). IsSolved a trial_caps v) same solved)
       (subst (λ (a : Program). e ≡ tried_ending number bricks a v.certificate (solved_outcome v)) same made)
 
   -- so a fault of its solve is want of memory

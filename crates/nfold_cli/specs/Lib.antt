@@ -1,6 +1,7 @@
 pub mod Words
 pub mod Texts
 pub mod RunTexts
+pub mod StepCounts
 pub mod SolvedTexts
 pub mod Endings
 pub mod PointCommand

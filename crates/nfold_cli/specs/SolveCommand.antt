@@ -1,5 +1,5 @@
 -- `solve P`: the outcome of a program, and its certificate.
-use Rattle.std.specs.Prelude.{◌≡◌, ℕ, ◌⊎◌, ◌++◌, Bool, List, Some}
+use Rattle.std.specs.Prelude.{◌≡◌, ℕ, ◌⊎◌, ◌++◌, Bool, Some}
 use Rattle.fold_theory.specs.Programs.{Program}
 use Rattle.run_theory.specs.declared.SolveFault.{SolveFault}
 use Rattle.run_theory.specs.Certificates.{Certificate}
@@ -13,6 +13,7 @@ use Rattle.certificate.specs.CertificateText.{certificate_text}
 use Rattle.nfold_cli.specs.declared.words.SolveOptions.{SolveOptions}
 use Rattle.nfold_cli.specs.declared.status.Status.TheVariants as status
 use Rattle.nfold_cli.specs.RunTexts.{outcome_text, limit_text}
+use Rattle.nfold_cli.specs.StepCounts.{AreTold}
 use Rattle.nfold_cli.specs.Words.{Word}
 use Rattle.nfold_cli.specs.Endings.{Ending, ending}
 
@@ -53,12 +54,14 @@ IsSolveEnding prefix options p =
     IsEndingWithin p (caps_of options) (solved_ending prefix options.trace p.brick.cols)
 
 -- the outcome is that of the program, and what its verdict says is true: where it is optimal, the outcome's point is
--- feasible and has that cost, and no feasible point costs less; and its certificate is accepted
+-- feasible and has that cost, and no feasible point costs less; its certificate is accepted; and the trace tells how
+-- many steps each phase makes, which are few
 pub record IsTrueOutcome (p : Program) (o : Outcome) (c : Certificate) : Type 0 where
   pub outcome : IsOutcome p o
   pub certificate : IsCertificate p o c
   pub accepted : Accept p c
   pub holds : HoldsAt p o
+  pub told : AreTold p o
 
 -- where a text was made, the ending is that of such an outcome and its certificate
 abbrev pub IsTrueEnding : Program → (Certificate → Outcome → Ending) → Ending → Type 0

@@ -13,7 +13,7 @@ mod status;
 mod texts;
 mod words;
 
-pub use laws::{all_numbers_of_workers_have_one_ending, one_ending};
+pub use laws::{all_numbers_of_workers_have_one_ending, each_phase_makes_few_steps, one_ending};
 pub use run_texts::{brick_step_text, limit_text, made_text, step_text, trial_text};
 pub use running::run;
 pub use solved_texts::solved_text;

@@ -1,12 +1,14 @@
 //! The top call.
 
 ghost use Rattle.std.specs.Prelude.{◌≡◌, ◌≢◌, ◌≤◌, ◌⊎◌, IfErr, OnOk, OnErr, map};
-ghost use Rattle.fold_shelf.specs.Outside.{ForTold, ForBoth, ReadFailed, WriteFailed, SinkFailed, OnlyWrites, Took, TookPart, IsCreateCause, IsSinkCause};
+ghost use Rattle.fold_shelf.specs.Outside.{ForTold, ForBoth, ReadFailed, WriteFailed, SinkFailed, OnlyWrites};
+ghost use Rattle.fold_shelf.specs.Outside.{Took, TookPart, IsCreateCause, IsSinkCause};
 ghost use Rattle.nfold_cli.specs.Words as specs;
 ghost use Rattle.nfold_cli.specs.Texts as texts;
 ghost use Rattle.nfold_cli.specs.Endings.{IsWritten, IsRefusal};
 ghost use Rattle.nfold_cli.specs.Forms.{stored_by};
-ghost use Rattle.nfold_cli.specs.Running.{EndsWith, AnswersForm, FailsReading, FailsWriting, Stores, StoresPart, ChangesOnly, Leaves, GivesTruth, Said, SaysOf};
+ghost use Rattle.nfold_cli.specs.Running.{EndsWith, AnswersForm, FailsReading, FailsWriting, Stores, StoresPart};
+ghost use Rattle.nfold_cli.specs.Running.{ChangesOnly, Leaves, GivesTruth, Said, SaysOf};
 ghost use Rattle.nfold_cli.specs.Answers.{IsOfEnding, IsWhole, IsPart, IsHandCause, IsSaid, Gives, Runs};
 
 use crate::answer::{Answer, StoredFile};
@@ -24,15 +26,16 @@ use std::thread::Threads;
 ///
 /// `Usage` comes exactly where the words are no form, `Input` where a file is refused, in the order in which files are
 /// read, and `Limit` where the slack basis of `graver` passes its limit, or a solve passes one, while a trial passes
-/// none; `No` where the point is broken, or the certificate breaks a rule. `ReadFault` comes only where a file is missing
-/// or the shelf has counted a fault in this call, `WriteFault` only where `out` has, or the shelf on storing, and
-/// `Memory` may come at any time. A fault of `err` changes no answer.
+/// none; `No` where the point is broken, or the certificate breaks a rule. `ReadFault` comes only where a file is
+/// missing or the shelf has counted a fault in this call, `WriteFault` only where `out` has, or the shelf on storing,
+/// and `Memory` may come at any time. A fault of `err` changes no answer.
 ///
 /// What a text on `out` says is true. Where `point` ends with `Done`, the point is feasible and has the printed cost,
 /// and where with `No`, it is not feasible. Where `check` ends with `Done`, the printed verdict is true of the program.
 /// Where `solve` ends with `Done`, so is its verdict; the printed point is feasible, has the printed cost, and no
-/// feasible point costs less; and the stored certificate is one that `check` accepts. Where `trial` does, the verdict is
-/// true of the program that it has made, and the certificate accepted.
+/// feasible point costs less; the stored certificate is one that `check` accepts; and a trace tells how many steps each
+/// phase makes, which are at most its bound number times the binary digits of the whole gain. Where `trial` does, the
+/// verdict is true of the program that it has made, and the certificate accepted.
 ///
 /// Neither the number of workers nor the gate changes what is answered, stored or written.
 pub fn run<R: Threads + Sync, S: Shelf, K: Sink, E: Sink, G: Gate>(
@@ -46,23 +49,29 @@ pub fn run<R: Threads + Sync, S: Shelf, K: Sink, E: Sink, G: Gate>(
 ) -> Status
     ensures form { AnswersForm (specs.form_of (map (λ w. w.items) words.now)) result }
     ensures ending { ForTold (S.seen shelf.old).files (λ fs. EndsWith (map (λ w. w.items) words.now) fs result) }
-    ensures read { result ≡ Status.ReadFault → FailsReading (map (λ w. w.items) words.now) (S.seen shelf.old).files (ReadFailed (S.seen shelf.old) (S.seen shelf.new)) }
+    ensures read { result ≡ Status.ReadFault → FailsReading (map (λ w. w.items) words.now) (S.seen shelf.old).files
+        (ReadFailed (S.seen shelf.old) (S.seen shelf.new)) }
     ensures write { result ≡ Status.WriteFault → FailsWriting (stored_by (specs.form_of (map (λ w. w.items) words.now)))
         (SinkFailed (K.seen out.old) (K.seen out.new)) (WriteFailed (S.seen shelf.old) (S.seen shelf.new)) }
 
     // What is stored and written.
-    ensures left { ForBoth (S.seen shelf.old).files (S.seen shelf.new).files (λ before now. ForBoth (K.seen out.old).taken (K.seen out.new).taken
+    ensures left { ForBoth (S.seen shelf.old).files (S.seen shelf.new).files (λ before now.
+        ForBoth (K.seen out.old).taken (K.seen out.new).taken
         (λ taken_before taken_now. Leaves (map (λ w. w.items) words.now) before now taken_before taken_now result)) }
-    ensures files { ForBoth (S.seen shelf.old).files (S.seen shelf.new).files (ChangesOnly (stored_by (specs.form_of (map (λ w. w.items) words.now)))) }
-    ensures kept { IsRefusal result → ((S.seen shelf.new).files ≡ (S.seen shelf.old).files) × ((K.seen out.new).taken ≡ (K.seen out.old).taken) }
+    ensures files { ForBoth (S.seen shelf.old).files (S.seen shelf.new).files
+        (ChangesOnly (stored_by (specs.form_of (map (λ w. w.items) words.now)))) }
+    ensures kept { IsRefusal result →
+        ((S.seen shelf.new).files ≡ (S.seen shelf.old).files) × ((K.seen out.new).taken ≡ (K.seen out.old).taken) }
 
     // What is said on errors.
     ensures quiet { IsWritten result → (E.seen err.new).taken ≡ (E.seen err.old).taken }
-    ensures said { ForTold (S.seen shelf.old).files (λ fs. SaysOf (map (λ w. w.items) words.now) fs (ReadFailed (S.seen shelf.old) (S.seen shelf.new)) (E.seen err.old) (E.seen err.new) result) }
+    ensures said { ForTold (S.seen shelf.old).files (λ fs. SaysOf (map (λ w. w.items) words.now) fs
+        (ReadFailed (S.seen shelf.old) (S.seen shelf.new)) (E.seen err.old) (E.seen err.new) result) }
 
     // What was written is true.
-    ensures holds { IsWritten result → ForBoth (S.seen shelf.old).files (S.seen shelf.new).files (λ before now. ForBoth (K.seen out.old).taken (K.seen out.new).taken
-        (λ taken_before taken_now. GivesTruth (specs.form_of (map (λ w. w.items) words.now)) before now taken_before taken_now result)) }
+    ensures holds { IsWritten result → ForBoth (S.seen shelf.old).files (S.seen shelf.new).files (λ before now.
+        ForBoth (K.seen out.old).taken (K.seen out.new).taken (λ taken_before taken_now.
+        GivesTruth (specs.form_of (map (λ w. w.items) words.now)) before now taken_before taken_now result)) }
 
     // No count of faults falls.
     ensures reads { (S.seen shelf.old).read_faults ≤ (S.seen shelf.new).read_faults }
@@ -128,9 +137,12 @@ fn hand_over<S: Shelf, K: Sink>(
     shelf: &mut S,
     out: &mut K,
 ) -> Result<(), SinkFault>
-    ensures whole { OnOk result (IsWhole answer.now (S.seen shelf.old) (S.seen shelf.new) (K.seen out.old) (K.seen out.new)) }
-    ensures part { OnErr result (IsPart answer.now (S.seen shelf.old) (S.seen shelf.new) (K.seen out.old) (K.seen out.new)) }
-    ensures cause { IfErr result (IsHandCause answer.now (S.seen shelf.old) (S.seen shelf.new) (K.seen out.old) (K.seen out.new)) }
+    ensures whole { OnOk result
+        (IsWhole answer.now (S.seen shelf.old) (S.seen shelf.new) (K.seen out.old) (K.seen out.new)) }
+    ensures part { OnErr result
+        (IsPart answer.now (S.seen shelf.old) (S.seen shelf.new) (K.seen out.old) (K.seen out.new)) }
+    ensures cause { IfErr result
+        (IsHandCause answer.now (S.seen shelf.old) (S.seen shelf.new) (K.seen out.old) (K.seen out.new)) }
     ensures writes { OnlyWrites (S.seen shelf.old) (S.seen shelf.new) }
     ensures outs { (K.seen out.old).faults ≤ (K.seen out.new).faults }
 {

@@ -35,7 +35,8 @@ pub(crate) fn answer_solve<R: Threads + Sync, S: Shelf, G: Gate>(
 ) -> Result<Answer, AllocError>
     requires workers { IsWorkerCount workers }
     requires limits { HasSolveLimits options }
-    ensures answer { IfOk result (IsAnswer (Some (SolveForm prefix.now workers options)) (S.seen shelf.old) (S.seen shelf.new)) }
+    ensures answer { IfOk result
+        (IsAnswer (Some (SolveForm prefix.now workers options)) (S.seen shelf.old) (S.seen shelf.new)) }
     ensures reads { OnlyReads (S.seen shelf.old) (S.seen shelf.new) }
 {
     match read_program(alloc, shelf, prefix, options.relations) {
@@ -66,6 +67,8 @@ fn outcome_of<R: Threads + Sync, G: Gate>(
     };
     // No bounds are further apart than 2^63, and no step is longer.
     let _ = program.widest();
+    // The runs of a program make few steps.
+    let _ = program.n();
     match solve(rt, alloc, program, settings, gate) {
         Ok(solved) => certified(alloc, prefix, &solved, options.trace),
         Err(fault) => limit_answer(alloc, fault),
@@ -80,7 +83,8 @@ fn certified(
     trace: bool,
 ) -> Result<Answer, AllocError>
     requires { HasShortSteps solved.now }
-    ensures { IfOk result (λ a. a ≡ solved_ending prefix.now trace solved.now.certificate.point.cols solved.now.certificate (solved_outcome solved.now)) }
+    ensures { IfOk result (λ a. a ≡ solved_ending prefix.now trace solved.now.certificate.point.cols
+        solved.now.certificate (solved_outcome solved.now)) }
 {
     let text = solved_text(alloc, solved, trace)?;
     let name = file_name(alloc, prefix, FileKind::Cert)?;

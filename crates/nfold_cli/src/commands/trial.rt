@@ -54,6 +54,8 @@ fn outcome_of<R: Threads + Sync, G: Gate>(
         max_basis: DEFAULT_BASIS,
         max_sums: DEFAULT_SUMS,
     };
+    // The runs of a program make few steps.
+    let _ = program.n();
     match solve(rt, alloc, program, settings, gate) {
         Ok(solved) => tried(alloc, number, bricks, program, &solved),
         Err(fault) => {
@@ -72,7 +74,8 @@ fn tried(
     program: &Program,
     solved: &Solved,
 ) -> Result<Answer, AllocError>
-    ensures { IfOk result (λ a. a ≡ specs.tried_ending number bricks program.now solved.now.certificate (solved_outcome solved.now)) }
+    ensures { IfOk result (λ a. a ≡ specs.tried_ending number bricks program.now
+        solved.now.certificate (solved_outcome solved.now)) }
 {
     let certificate = read_back(alloc, &solved.certificate)?;
     let answer = check(alloc, program, &certificate)?;

@@ -11,12 +11,12 @@ certified-requires g c =
 pub returns-in-Ok-clause-ends : goal.returns-in-Ok-clause-ends
 returns-in-Ok-clause-ends g c =
     (solve_found c.certified.result c.args.program.now c.args.prefix.now c.args.options c.in-Ok.solved
-    c.in-Ok.ensures.solved c.certified.ensures).0
+    c.n.ensures.program c.in-Ok.ensures.solved c.certified.ensures).0
 
 pub returns-in-Ok-clause-holds : goal.returns-in-Ok-clause-holds
 returns-in-Ok-clause-holds g c =
     (solve_found c.certified.result c.args.program.now c.args.prefix.now c.args.options c.in-Ok.solved
-    c.in-Ok.ensures.solved c.certified.ensures).1
+    c.n.ensures.program c.in-Ok.ensures.solved c.certified.ensures).1
 
 pub returns-in-Err-clause-ends : goal.returns-in-Err-clause-ends
 returns-in-Err-clause-ends g c =
