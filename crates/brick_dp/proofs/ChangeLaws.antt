@@ -13,7 +13,7 @@ use Rattle.fold_theory.specs.Programs.{Program, Brick, brick_cost}
 use Rattle.fold_program.specs.Places.{OfBrick}
 use Rattle.fold_program.specs.Refusals.{brick_magnitude, total_magnitude}
 use Rattle.step_targets.specs.Targets.{after, AreBetween, Leads}
-use Rattle.brick_dp.specs.Changes.{ForBrick, IsChange}
+use Rattle.brick_dp.specs.Changes.{IsChange}
 use Rattle.brick_dp.proofs.CostLaws.{same_brick, small_in_total}
 
 module _ {A : Type 0} where
@@ -36,10 +36,6 @@ sized_at zs t i w widths there =
 
 pub length-after : (k : ℕ) (v d : Vector) (n : ℕ) → length v ≡ n → length d ≡ n → length (after k v d) ≡ n
 length-after k v d n e f = length-add v (scale (pos (2 ^ k)) d) n e (length-scale (pos (2 ^ k)) d ∙ f)
-
--- what holds of a brick of this number holds of the one that stands there
-pub for_brick : (p : Program) (i : ℕ) (P : Brick → Type 0) → OfBrick p i P → ForBrick p i P
-for_brick p i P found b at = subst P (same_brick _ found.0 b found.1 at) found.2
 
 -- where a move leads within the bounds, it leads there
 pub led_to : (lower upper end : Vector) (o : Option (Vec ℤ Global)) (v : Vec ℤ Global) → Leads lower upper end o → o ≡ Some v → AreBetween lower upper end × (v.items ≡ end)

@@ -1,15 +1,11 @@
 -- What the moves of a brick change the cost by.
-use Rattle.std.specs.Prelude.{◌≡◌, ℕ, ◌-◌, ◌*◌, ◌≤◌, ℤ, unsigned_abs, Option, Some, None, slice_get}
+use Rattle.std.specs.Prelude.{◌≡◌, ℕ, ◌*◌, ◌≤◌, ℤ, unsigned_abs, Option, Some, None}
 use Rattle.fold_theory.specs.declared.Phase.{Phase}
 use Rattle.lattice_theory.specs.Vectors.{Vector}
-use Rattle.fold_theory.specs.Programs.{Program, Brick, IsWithin}
+use Rattle.fold_theory.specs.Programs.{Brick, IsWithin}
 use Rattle.run_theory.specs.Walks.{brick_change}
 use Rattle.fold_program.specs.Refusals.{brick_magnitude}
 use Rattle.step_targets.specs.Targets.{after}
-
--- this holds of the brick of this number, from 1
-abbrev pub ForBrick : Program → ℕ → (Brick → Type 0) → Type 0
-ForBrick p i P = (b : Brick) → slice_get p.bricks (i - 1) ≡ Some b → P b
 
 -- what the move of a brick changes its cost by, where it stays within the bounds
 abbrev pub IsChange : Phase → ℕ → Brick → Vector → Vector → Option ℤ → Type 0

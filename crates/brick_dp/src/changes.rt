@@ -2,8 +2,8 @@
 
 ghost use Rattle.std.specs.Prelude.{◌≡◌, ◌<◌, ◌≤◌, length, IfOk};
 ghost use Rattle.fold_theory.specs.Programs.{IsWithin};
-ghost use Rattle.fold_program.specs.Places.{OfBrick};
-ghost use Rattle.brick_dp.specs.Changes.{IsChange, ForBrick};
+ghost use Rattle.fold_program.specs.Places.{OfBrick, ForBrick};
+ghost use Rattle.brick_dp.specs.Changes.{IsChange};
 
 use crate::folds::Fold;
 use fold_program::Phase;

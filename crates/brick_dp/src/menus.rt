@@ -2,7 +2,7 @@
 
 ghost use Rattle.std.specs.Prelude.{◌≡◌, ◌-◌, ◌<◌, ◌≤◌, length, Some, IfOk, OnOk, slice_get};
 ghost use Rattle.fold_theory.specs.Programs.{IsWithin, AreWithin};
-ghost use Rattle.brick_dp.specs.Changes.{ForBrick};
+ghost use Rattle.fold_program.specs.Places.{ForBrick};
 ghost use Rattle.brick_dp.specs.Menus.{IsBrickMenu, AreMenus};
 ghost use Rattle.brick_dp.specs.Needs.{IsLeastOf};
 ghost use Rattle.sieve_laws.specs.Sieve.{Menu};
@@ -131,13 +131,7 @@ impl Menus {
 }
 
 /// The menu of one brick.
-fn menu(
-    alloc: Global,
-    fold: &Fold,
-    brick: u32,
-    at: &[i64],
-    k: u32,
-) -> Result<BrickMenu, AllocError>
+fn menu(alloc: Global, fold: &Fold, brick: u32, at: &[i64], k: u32) -> Result<BrickMenu, AllocError>
     requires from { 1 ≤ brick }
     requires to { brick ≤ length fold.now.program.bricks }
     requires within { ForBrick fold.now.program brick (λ b. IsWithin b at.now) }

@@ -11,21 +11,15 @@ use Rattle.lattice_laws.proofs.Rising.{lex_total}
 use Rattle.lattice_theory.specs.Vectors.{Vector, lex_cmp}
 use Rattle.fold_theory.specs.Programs.{Program, Brick, IsWithin, brick_residual}
 use Rattle.run_theory.specs.BrickRuns.{BrickMove, stepped, brick_cmp}
-use Rattle.fold_program.specs.Places.{OfBrick}
+use Rattle.fold_program.specs.Places.{OfBrick, ForBrick}
+use Rattle.fold_program.proofs.PlaceLaws.{for_brick}
 use Rattle.brick_phase.specs.declared.offers.Place.{Place}
 use Rattle.brick_phase.specs.declared.offers.Offer.{Offer}
 use Rattle.brick_phase.specs.Bounds.{AreBetween, Leads}
-use Rattle.brick_phase.specs.Offers.{ForBrick, IsPlace, Lowers, IsOffer, IsOfferOf, IsBestOf, Uses, offer_cmp}
+use Rattle.brick_phase.specs.Offers.{IsPlace, Lowers, IsOffer, IsOfferOf, IsBestOf, Uses, offer_cmp}
 use Rattle.brick_phase.proofs.OrderLaws.{le_itself, le_trans}
 
 -- ---- the brick of a number
-
-same_some : {A : Type 0} → (a b : A) → Some a ≡ Some b → a ≡ b
-same_some a b e = cc
-
--- there is one brick of a number
-pub for_brick : (p : Program) (i : ℕ) (P : Brick → Type 0) → OfBrick p i P → ForBrick p i P
-for_brick p i P (a, here, holds) b there = subst P (same_some a b (sym here ∙ there)) holds
 
 -- the entries of a place are as many as the columns
 pub place_width : (p : Program) (i n : ℕ) (lower : Vector) (a : Place) → length lower ≡ n → OfBrick p i (λ b. lower ≡ b.lower) →

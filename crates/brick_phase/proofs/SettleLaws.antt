@@ -8,14 +8,14 @@ use Rattle.lattice_theory.specs.Lattices.{first_parts}
 use Rattle.lattice_laws.proofs.Members.{contains_cases, contains_head, contains_tail}
 use Rattle.fold_theory.specs.Programs.{Program, Brick, IsProgram, IsBrick, IsWithin, brick_residual}
 use Rattle.run_theory.specs.BrickRuns.{BrickMove, nearest_point, stepped, Improves, IsBestBrickMove, IsBrickRunFrom}
-use Rattle.fold_program.specs.Places.{OfBrick}
+use Rattle.fold_program.specs.Places.{OfBrick, ForBrick}
 use Rattle.brick_phase.specs.declared.moves.Moves.{Moves}
 use Rattle.brick_phase.specs.declared.offers.Place.{Place}
 use Rattle.brick_phase.specs.declared.offers.Offer.{Offer}
 use Rattle.brick_phase.specs.Moves.{vectors, with_opposites, AreMoves}
-use Rattle.brick_phase.specs.Offers.{ForBrick, FitMoves, IsPlace, Lowers, IsBestOf, IsBestOffer, Uses}
+use Rattle.brick_phase.specs.Offers.{FitMoves, IsPlace, Lowers, IsBestOf, IsBestOffer, Uses}
 use Rattle.brick_phase.specs.Settled.{IsBrickEnd}
-use Rattle.brick_phase.proofs.OfferLaws.{for_brick}
+use Rattle.fold_program.proofs.PlaceLaws.{for_brick}
 
 -- ---- the vectors of steps
 

@@ -1,20 +1,16 @@
 -- What steps of a brick offer, and which offer comes first.
-use Rattle.std.specs.Prelude.{◌≡◌, ℕ, ◌-◌, ◌<◌, ◌≤◌, List, length, All, Contains, Option, Some, None, IsTrue, slice_get}
+use Rattle.std.specs.Prelude.{◌≡◌, ℕ, ◌<◌, ◌≤◌, List, length, All, Contains, Option, Some, None, IsTrue}
 use Rattle.std.specs.Ordering.{nat_cmp, ordering_then, is_le}
 use Rattle.std.specs.declared.cmp.Ordering.{Ordering}
 use Rattle.lattice_theory.specs.Vectors.{Vector, lex_cmp}
 use Rattle.lattice_theory.specs.BasisLimits.{IsNarrow}
 use Rattle.fold_theory.specs.Programs.{Program, Brick, IsWithin, brick_residual}
 use Rattle.run_theory.specs.BrickRuns.{BrickMove, nearest_point, stepped, brick_cmp}
-use Rattle.fold_program.specs.Places.{OfBrick}
+use Rattle.fold_program.specs.Places.{OfBrick, ForBrick}
 use Rattle.brick_phase.specs.declared.moves.Moves.{Moves}
 use Rattle.brick_phase.specs.declared.offers.Place.{Place}
 use Rattle.brick_phase.specs.declared.offers.Offer.{Offer}
 use Rattle.brick_phase.specs.Moves.{vectors}
-
--- this holds of the brick of this number, from 1
-abbrev pub ForBrick : Program → ℕ → (Brick → Type 0) → Type 0
-ForBrick p i P = (b : Brick) → slice_get p.bricks (i - 1) ≡ Some b → P b
 
 -- each vector has an entry for each column and is narrow, and no length passes a word
 pub record FitMoves (p : Program) (m : Moves) : Type 0 where

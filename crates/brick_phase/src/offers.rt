@@ -3,7 +3,8 @@
 ghost use Rattle.std.specs.Prelude.{◌≡◌, ◌<◌, ◌≤◌, ◌⊎◌, Some, length, IsTrue, IfSome, IfOk};
 ghost use Rattle.std.specs.Ordering.{is_le, is_lt};
 ghost use Rattle.lattice_theory.specs.BasisLimits.{IsNarrow};
-ghost use Rattle.brick_phase.specs.Offers.{offer_cmp, ForBrick, IsPlace, IsOfferAt, IsBestOffer, FitMoves};
+ghost use Rattle.fold_program.specs.Places.{ForBrick};
+ghost use Rattle.brick_phase.specs.Offers.{offer_cmp, IsPlace, IsOfferAt, IsBestOffer, FitMoves};
 
 use crate::moves::Moves;
 use crate::steps::BrickStep;

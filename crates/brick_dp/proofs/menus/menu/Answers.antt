@@ -5,7 +5,7 @@ use Rattle.sieve_laws.specs.declared.PricedMove.{PricedMove}
 use Rattle.sieve_laws.specs.Sieve.{Menu}
 use Rattle.brick_dp.specs.Menus.{IsBrickMenu}
 use Rattle.brick_dp.specs.Changes.{IsChange}
-use Rattle.brick_dp.proofs.ChangeLaws.{for_brick}
+use Rattle.fold_program.proofs.PlaceLaws.{for_brick}
 use Rattle.brick_dp.proofs.MenuLaws.{MenuUpTo, menu_outside, menu_more, menu_all}
 use Rattle.brick_dp.proofs.menus.menu.Goals as goal
 use Rattle.brick_dp.proofs.menus.menu.Goals.{in-Some+in_ok-push, in_default}

@@ -1,4 +1,4 @@
-use Rattle.brick_dp.specs.Changes.{ForBrick}
+use Rattle.fold_program.specs.Places.{ForBrick}
 use Rattle.brick_dp.proofs.MenuLaws.{MenuUpTo}
 use Rattle.brick_dp.proofs.menus.menu.Given as goal
 

@@ -1,6 +1,7 @@
 use Rattle.std.proofs.Common.{take}
 use Rattle.brick_phase.specs.Moves.{vectors}
-use Rattle.brick_phase.specs.Offers.{ForBrick, IsBestOf, Uses}
+use Rattle.fold_program.specs.Places.{ForBrick}
+use Rattle.brick_phase.specs.Offers.{IsBestOf, Uses}
 use Rattle.brick_phase.proofs.OfferLaws.{Tried}
 use Rattle.brick_phase.proofs.offers.best_offer.Given as goal
 

@@ -1,5 +1,6 @@
 use Rattle.run_theory.specs.BrickRuns.{nearest_point}
-use Rattle.brick_phase.specs.Offers.{ForBrick, IsPlace}
+use Rattle.fold_program.specs.Places.{ForBrick}
+use Rattle.brick_phase.specs.Offers.{IsPlace}
 use Rattle.brick_phase.proofs.SettleLaws.{LeadsOn}
 use Rattle.brick_phase.proofs.settling.settle_brick.Given as goal
 
