@@ -9,7 +9,7 @@ ghost use Rattle.lattice_theory.specs.Vectors.{IsBoundedRow};
 ghost use Rattle.run_theory.specs.Folds.{IsSmallImage, HasBrickSums};
 
 use crate::{Gate, RunMenus, Step, Task, round};
-use brick_dp::Fold;
+use brick_dp::{Bound, Fold, Key, Moves, NoBound, StepAnswer, best_step};
 use brick_sums::{Sums, sums};
 use fold_program::{Breakpoint, Breakpoints, Cost, Parts, Phase, Point, Program};
 use fold_shelf::OpenGate;
@@ -21,6 +21,7 @@ use std::rt::HostRuntime;
 use std::sync::atomic::{AtomicU64, Ordering};
 use std::test::Fail;
 use std::thread::Threads;
+use step_lengths::count;
 use sum_laws::brick_sums_make_a_fold;
 
 // ---- programs
@@ -369,5 +370,102 @@ fn a_step_that_was_offered_spares_the_other_lengths(rt: HostRuntime) -> Result<(
     let beside = HoldsLengths::new(true);
     assert!(rt; finds_at(&rt, rt.alloc(), 2, &beside)?);
     assert_eq!(rt; beside.tried(1), 0);
+    Ok(())
+}
+
+// ---- how many moves the search for a step of one length tries
+
+/// A bound that answers none so often, and from then on a gain of 9 at length 1.
+#[derive(Debug, Drop)]
+struct NineAfter {
+    nones: u32,
+    is_told: bool,
+}
+
+impl Bound for NineAfter {
+    ghost use Rattle.std.specs.Prelude.{cond, Some, None};
+
+    ghost last = { λ b. cond b.is_told (Some (record { gain = 9; k = 0 })) None };
+
+    ghost later = { λ a b. Unit {0} };
+
+    ghost stays = { λ b. tt };
+
+    ghost goes_on = { λ a b c before after. tt };
+
+    fn now(&mut self) -> Option<Key> {
+        if self.nones > 0 {
+            self.nones -= 1;
+        } else {
+            self.is_told = true;
+        }
+        if self.is_told {
+            Some(Key { gain: 9, k: 0 })
+        } else {
+            None
+        }
+    }
+}
+
+/// The answer for length 2 from a point of the two bricks at which the first columns cost 9, and how many moves were
+/// tried.
+fn seeks_a_double_step<B: Bound>(
+    alloc: Global,
+    bound: &mut B,
+) -> Result<(StepAnswer, u64), Fail> {
+    let program = two_bricks(alloc)?;
+    let entries = [0, 4, 3, 1].to_vec(alloc)?;
+    let Some(point) = Point::new(&program, entries) else {
+        return Err("not a point".into());
+    };
+    let None = program.broken(&point) else {
+        return Err("not feasible".into());
+    };
+    let sums = closed_sums(alloc, &program)?;
+    let Some(fold) = Fold::new(&program, &sums, Phase::Closed) else {
+        return Err("too large".into());
+    };
+    if count(program.widest()) <= 1 {
+        return Err("no such length".into());
+    }
+    let mut moves = Moves::new();
+    let answer = best_step(alloc, &fold, &point, 1, bound, &mut moves)?;
+    Ok((answer, moves.count()))
+}
+
+#[test]
+fn without_a_bound_moves_lead_to_two_live_nodes(rt: HostRuntime) -> Result<(), Fail> {
+    let (answer, moves) = seeks_a_double_step(rt.alloc(), &mut NoBound)?;
+    let StepAnswer::Found(step) = answer else {
+        return Err("no step".into());
+    };
+    assert_eq!(rt; step.gain, 4);
+    assert_eq!(rt; step.entries.as_slice(), [1, -1, -1, 1].as_slice());
+    assert!(rt; 1 <= moves && moves <= 10);
+    Ok(())
+}
+
+#[test]
+fn a_bound_that_is_asked_again_ends_the_search(rt: HostRuntime) -> Result<(), Fail> {
+    let mut bound = NineAfter {
+        nones: 1,
+        is_told: false,
+    };
+    let (answer, moves) = seeks_a_double_step(rt.alloc(), &mut bound)?;
+    assert!(rt; matches!(answer, StepAnswer::Beaten));
+    assert!(rt; moves <= 5);
+    Ok(())
+}
+
+#[test]
+fn a_bound_that_was_known_spares_each_move(rt: HostRuntime) -> Result<(), Fail> {
+    let mut bound = NineAfter {
+        nones: 0,
+        is_told: false,
+    };
+    bound.now();
+    let (answer, moves) = seeks_a_double_step(rt.alloc(), &mut bound)?;
+    assert!(rt; matches!(answer, StepAnswer::Beaten));
+    assert_eq!(rt; moves, 0);
     Ok(())
 }
