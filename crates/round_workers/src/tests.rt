@@ -409,10 +409,7 @@ impl Bound for NineAfter {
 
 /// The answer for length 2 from a point of the two bricks at which the first columns cost 9, and how many moves were
 /// tried.
-fn seeks_a_double_step<B: Bound>(
-    alloc: Global,
-    bound: &mut B,
-) -> Result<(StepAnswer, u64), Fail> {
+fn seeks_a_double_step<B: Bound>(alloc: Global, bound: &mut B) -> Result<(StepAnswer, u64), Fail> {
     let program = two_bricks(alloc)?;
     let entries = [0, 4, 3, 1].to_vec(alloc)?;
     let Some(point) = Point::new(&program, entries) else {
