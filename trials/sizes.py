@@ -486,7 +486,7 @@ def allowed(case, folder):
     bases = 48 * case.members**2
     kept = 64 * min(2**22, case.nodes * case.lengths)
     workers = (96 * case.nodes + 2**20) * case.workers
-    return 2**24 + held(folder) + bases + 8 * case.sums**2 + max(kept + workers, 320 * case.nodes)
+    return 2**24 + held(folder) + bases + 8 * case.sums**2 * (case.sums <= 5000) + max(kept + workers, 320 * case.nodes)
 
 
 def call(binary, folder, words, seconds):
