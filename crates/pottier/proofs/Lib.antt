@@ -1,7 +1,7 @@
 pub mod PairLaws
 pub mod StageLaws
 pub mod PartnerLaws
-pub mod SignLaws
+pub mod RankLaws
 pub mod QueueLaws
 pub mod RowLaws
 pub mod BasisLaws

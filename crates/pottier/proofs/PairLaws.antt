@@ -1,17 +1,20 @@
 -- Laws of narrow vectors, of their sums, and of the members below a vector.
-use Rattle.std.proofs.Common.{◌≡◌, ℕ, ◌+◌, ◌*◌, ◌<◌, ◌≤◌, ◌^◌, ℤ, neg_ℤ, ◌+ℤ◌, ◌-ℤ◌, unsigned_abs, Bool, true, false, ◌||◌, List, [], ◌∷◌, ◌++◌, length, take, get_or, refl, ap, arith, sym, ◌∙◌, Contains, inl, inr, subst, Vec}
+use Rattle.std.proofs.Common.{◌≡◌, ℕ, ◌+◌, ◌*◌, ◌<◌, ◌≤◌, ◌^◌, ℤ, neg_ℤ, ◌+ℤ◌, ◌-ℤ◌, unsigned_abs, true, false, ◌||◌}
+use Rattle.std.proofs.Common.{List, [], ◌∷◌, ◌++◌, length, take, drop, get_or, refl, ap, arith, sym, ◌∙◌, Contains}
+use Rattle.std.proofs.Common.{inl, inr, subst, Vec}
 use Rattle.std.specs.List.{AllByRecursion}
 use Rattle.std.specs.declared.alloc.Global.{Global}
 use Rattle.std.proofs.lemmas.Int.{ints}
-use Rattle.std.proofs.lemmas.List.{map_more, take_all, get_or-map, length-map}
-use Rattle.std.proofs.lemmas.List.Elements.{recursion_from_All, All-take, Contains-push_cases}
+use Rattle.std.proofs.lemmas.List.{map_more, take_all, get_or-map, get_or-append-add, get_or-drop, length-map}
+use Rattle.std.proofs.lemmas.List.{length-take-le}
+use Rattle.std.proofs.lemmas.List.Elements.{recursion_from_All, All-take}
 use Rattle.lattice_theory.specs.Vectors.{Vector, conforms, norm1, add, sub, opposite}
 use Rattle.lattice_theory.specs.BasisLimits.{IsNarrow}
-use Rattle.lattice_laws.proofs.Tests.{not_both}
 use Rattle.lattice_laws.proofs.Conformal.{norm1-cons, norm_agree, take-add, opposite-opposite}
 use Rattle.lattice_laws.proofs.SlackBases.{IsReducible}
 use Rattle.lattice_laws.proofs.Completion.{counts_parts}
 use Rattle.pottier.specs.Vectors.{vectors}
+use Rattle.pottier.specs.Ranks.{lies_below}
 use Rattle.pottier.specs.Partners.{partner, pair_counts, norm_of_sum}
 use Rattle.pottier.proofs.PartnerLaws.{partner_norm}
 
@@ -38,15 +41,18 @@ sub_turned (a ∷ p) (b ∷ q) = λ i. entry a b i ∷ sub_turned p q i
     entry : (a b : ℤ) → (a -ℤ b) ≡ (a +ℤ neg_ℤ b)
     entry a b = omega (arith, ints)
 
+-- what a loop that turns the signs has not yet reached is as it was
+pub unturned : (z now : Vector) (i : ℕ) (d : ℤ) → now ≡ opposite (take i z) ++ drop i z → i < length z →
+    get_or now i d ≡ get_or z i d
+unturned z now i d h low =
+    ap (λ v. get_or v i d) h ∙ ap (λ n. get_or (opposite (take i z) ++ drop i z) n d) here
+    ∙ get_or-append-add (opposite (take i z)) (drop i z) 0 d ∙ get_or-drop i z 0 d
+    ∙ ap (λ n. get_or z n d) (omega arith)
+  where
+    here : i ≡ length (opposite (take i z)) + 0
+    here = omega (arith, length-map (take i z) neg_ℤ, length-take-le i z, low)
+
 -- ---- a member below z
-
--- the test of one member
-abbrev pub lies_below : Vector → Vector → Bool
-lies_below v z = conforms v z || conforms (opposite v) z
-
-pub both_false : (s t : Bool) → (s || t) ≡ false → (s ≡ false) × (t ≡ false)
-both_false true t h = absurd (cc)
-both_false false t h = (refl, h)
 
 pub reducible_as : (vs : List Vector) (v z : Vector) → Contains vs v → conforms v z ≡ true → IsReducible vs z
 reducible_as vs v z c below = (v, inl c, below)
@@ -56,20 +62,6 @@ reducible_turned vs v z c below = (opposite v, inr (subst (Contains vs) (sym (op
 
 pub not_below : (v z : Vector) → conforms v z ≡ false → conforms (opposite v) z ≡ false → lies_below v z ≡ false
 not_below v z plain other = ap (λ t. t || conforms (opposite v) z) plain ∙ other
-
-pub none_reducible : (z : Vector) → IsReducible [] z → ⊥
-none_reducible z (e, inl (k, low, f), b) = absurd (omega arith)
-none_reducible z (e, inr (k, low, f), b) = absurd (omega arith)
-
-pub not_reducible_push : (vs : List Vector) (v z : Vector) → (IsReducible vs z → ⊥) → lies_below v z ≡ false → IsReducible (vs ++ v ∷ []) z → ⊥
-not_reducible_push vs v z none h (e, inl c, b) = elim (Contains-push_cases vs v e c) [
-  | inl d ↦ none (e, inl d, b)
-  | inr f ↦ not_both (conforms e z) b (ap (λ u. conforms u z) (sym f) ∙ (both_false (conforms v z) (conforms (opposite v) z) h).0)
-]
-not_reducible_push vs v z none h (e, inr c, b) = elim (Contains-push_cases vs v (opposite e) c) [
-  | inl d ↦ none (e, inr d, b)
-  | inr f ↦ not_both (conforms e z) b (ap (λ u. conforms u z) (sym (opposite-opposite e) ∙ ap opposite (sym f)) ∙ (both_false (conforms v z) (conforms (opposite v) z) h).1)
-]
 
 -- ---- the vectors of a list
 

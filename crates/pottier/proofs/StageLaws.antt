@@ -147,8 +147,13 @@ pub added_reducible : (vs : List Vector) (w z : Vector) → (w ≡ z) ⊎ (w ≡
 added_reducible vs w z (inl e) = (z, inl (subst (Contains (vs ++ w ∷ [])) e (Contains-push vs w)), conforms_refl z)
 added_reducible vs w z (inr e) = (z, inr (subst (Contains (vs ++ w ∷ [])) e (Contains-push vs w)), conforms_refl z)
 
-pub not_reducible_same : (us vs : List Vector) (y z : Vector) → us ≡ vs → y ≡ z → (IsReducible us y → ⊥) → IsReducible vs z → ⊥
-not_reducible_same us vs y z e f h r = h (subst (λ x. IsReducible x y) (sym e) (subst (IsReducible vs) (sym f) r))
+pub not_reducible_same : (m : Matrix) (at : ℕ) (us vs : List Vector) (y z : Vector) → us ≡ vs → y ≡ z →
+    IsStage m at vs → IsDue m at vs z →
+    ((n : Matrix) → IsStage n at us → IsDue n at us y → IsReducible us y → ⊥) → IsReducible vs z → ⊥
+not_reducible_same m at us vs y z e f stage due h r =
+    h m (subst (IsStage m at) (sym e) stage) (subst (λ x. IsDue m at us x) (sym f)
+    (subst (λ x. IsDue m at x z) (sym e) due))
+    (subst (λ x. IsReducible x y) (sym e) (subst (IsReducible vs) (sym f) r))
 
 pub vectors_push : (members more : List (Vec ℤ Global)) (x : Vec ℤ Global) → more ≡ members ++ x ∷ [] → vectors more ≡ vectors members ++ x.items ∷ []
 vectors_push members more x e = ap vectors e ∙ map_push (λ v. v.items) members x

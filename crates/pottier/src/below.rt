@@ -1,41 +1,58 @@
 //! The members that lie conformally below a vector. Their signs are asked first, both words together and then
 //! each, and the entries only where they fit.
 
-ghost use Rattle.std.specs.Prelude.{◌≡◌, IfOk, length, map, All, MatchBool};
+ghost use Rattle.std.specs.Prelude.{◌≡◌, ◌≤◌, false, length, All, MatchBool};
+ghost use Rattle.std.specs.List.{AllWithin};
 ghost use Rattle.lattice_theory.specs.Vectors as vector;
+ghost use Rattle.lattice_theory.specs.Matrices.{Matrix};
 ghost use Rattle.lattice_laws.proofs.SlackBases.{IsReducible};
 ghost use Rattle.pottier.specs.Vectors.{vectors};
+ghost use Rattle.pottier.specs.Stages.{IsStage, IsDue};
+ghost use Rattle.pottier.specs.Ranks.{AreRanks, IsPlaced};
+ghost use Rattle.pottier.specs.Ranks as order;
 ghost use Rattle.int_vectors.specs.Signs as words;
 
-use int_vectors::{Signs, conforms, conforms_turned, exchanged, fits, has_places, signs_of};
-use std::alloc::{AllocError, Global};
+use crate::ranks::Rank;
+use int_vectors::{Signs, conforms, conforms_turned, exchanged, fits, has_places, norm1, signs_of};
 
-/// The signs of each member.
-pub fn all_signs(alloc: Global, members: &[Vec<i64>]) -> Result<Vec<Signs>, AllocError>
-    ensures { IfOk result (λ signs. signs.items ≡ map words.signs_of (vectors members.now)) }
+/// Whether a member, with either sign, is conformally below `z`, asked where all vectors of a lesser norm are covered.
+///
+/// Of a member below `z` and the rest of `z` one has at most half the norm, and so has a member below that. So the
+/// others are passed over, but for those of the norm of `z`, as `z` may be a member.
+pub fn is_reducible(members: &[Vec<i64>], ranks: &[Rank], z: &[i64], at: usize) -> bool
+    requires same { All (λ v. length v ≡ length z.now) (vectors members.now) }
+    requires at { at ≤ length z.now }
+    requires ranks { AreRanks at (vectors members.now) ranks.now }
+    ensures { MatchBool result (IsReducible (vectors members.now) z.now) ((m : Matrix) → IsStage m at (vectors members.now) → IsDue m at (vectors members.now) z.now → IsReducible (vectors members.now) z.now → ⊥) }
 {
-    let mut signs = Vec::with_capacity(alloc, members.len())?;
-    for member in members {
-        signs.push(signs_of(member))?;
+    let norm = norm1(&z[..at]);
+    let most = norm / 2;
+    let half = ranks.partition_point(|r| r.norm <= most);
+    if has_below(members, ranks, 0, half, z) {
+        return true;
     }
-    Ok(signs)
+    let same = ranks.partition_point(|r| r.norm < norm);
+    let past = ranks.partition_point(|r| r.norm <= norm);
+    has_below(members, ranks, same, past, z)
 }
 
-/// Whether a member, with either sign, is conformally below `z`.
-pub fn is_reducible(members: &[Vec<i64>], signs: &[Signs], z: &[i64]) -> bool
+/// Whether a member with a rank between two places, with either sign, is conformally below `z`.
+fn has_below(members: &[Vec<i64>], ranks: &[Rank], from: usize, to: usize, z: &[i64]) -> bool
     requires same { All (λ v. length v ≡ length z.now) (vectors members.now) }
-    requires signs { signs.now ≡ map words.signs_of (vectors members.now) }
-    ensures { MatchBool result (IsReducible (vectors members.now) z.now) (IsReducible (vectors members.now) z.now → ⊥) }
+    requires placed { All (IsPlaced (vectors members.now)) ranks.now }
+    requires within { to ≤ length ranks.now }
+    ensures { MatchBool result (IsReducible (vectors members.now) z.now) (AllWithin (λ r. order.lies_below (order.ranked_in (vectors members.now) r) z.now ≡ false) ranks.now from to) }
 {
     let plain = signs_of(z);
     let turned = exchanged(plain);
-    for i in 0..members.len() {
-        let member = members[i].as_slice();
-        if !has_places(signs[i], plain) {
+    for i in from..to {
+        let rank = ranks[i];
+        if !has_places(rank.signs, plain) {
             continue;
         }
-        if lies_below(member, signs[i], z, plain)
-            || turned_lies_below(member, signs[i], z, turned)
+        let member = members[rank.place].as_slice();
+        if lies_below(member, rank.signs, z, plain)
+            || turned_lies_below(member, rank.signs, z, turned)
         {
             return true;
         }

@@ -12,16 +12,17 @@ ghost use Rattle.lattice_laws.proofs.SlackBases.{IsReducible};
 ghost use Rattle.lattice_laws.proofs.Completion.{CoversBelow};
 ghost use Rattle.pottier.specs.Vectors.{vectors};
 ghost use Rattle.pottier.specs.Partners.{sum_of_pair};
-ghost use Rattle.int_vectors.specs.Signs as words;
+ghost use Rattle.pottier.specs.Ranks.{AreRanks};
 ghost use Rattle.pottier.specs.Faults.{IsBasisFault};
 ghost use Rattle.pottier.specs.Stages.{AreMembers, AreFitting, Grows, IsStage, IsDue, IsCompleted};
 ghost use Rattle.pottier.specs.Queues.{IsPairOf, first_of, second_of};
 
 use crate::BasisFault;
-use crate::below::{all_signs, is_reducible};
-use crate::pairs::{is_narrow, opposite, pair_sum};
+use crate::below::is_reducible;
+use crate::pairs::{is_narrow, pair_sum, turn};
 use crate::queue::{Pair, pair_up};
-use int_vectors::{Signs, leads_positive, signs_of};
+use crate::ranks::{Rank, add_rank, all_ranks};
+use int_vectors::leads_positive;
 use std::alloc::{AllocError, Global};
 use std::collections::BinaryHeap;
 
@@ -38,13 +39,13 @@ pub fn complete(
     ensures completed { (m : matrices.Matrix) → IsStage m at (vectors members.old.items) → OnOk result (IsCompleted m (vectors members.new.items)) }
     ensures refused { (m : matrices.Matrix) → IsStage m at (vectors members.old.items) → IfErr result (IsBasisFault m limit) }
 {
-    let mut signs = all_signs(alloc, members)?;
+    let mut ranks = all_ranks(alloc, members, at)?;
     let mut pairs = BinaryHeap::new(alloc);
     pair_up(&mut pairs, members, 0, at)?;
     while let Some(pair) = pairs.pop() {
         let paired = members.len();
         let sum = sum_of(alloc, members, pair, at)?;
-        add_sum(alloc, members, &mut signs, sum, limit)?;
+        add_sum(members, &mut ranks, sum, at, limit)?;
         pair_up(&mut pairs, members, paired, at)?;
     }
     Ok(())
@@ -66,45 +67,47 @@ fn sum_of(
 
 /// Adds a vector or its opposite, whichever leads positive, where no member is below it.
 fn add_sum(
-    alloc: Global,
     members: &mut Vec<Vec<i64>>,
-    signs: &mut Vec<Signs>,
+    ranks: &mut Vec<Rank>,
     sum: Vec<i64>,
+    at: usize,
     limit: usize,
 ) -> Result<(), BasisFault>
-    requires signs { signs.old.items ≡ map words.signs_of (vectors members.old.items) }
+    requires at { at ≤ length sum.items }
+    requires ranks { AreRanks at (vectors members.old.items) ranks.old.items }
     requires fitting { AreFitting (length sum.items) limit (vectors members.old.items) }
     requires small { All (λ x. unsigned_abs x < 2 ^ 62) sum.items }
-    ensures signs { OnOk result (signs.new.items ≡ map words.signs_of (vectors members.new.items)) }
+    ensures ranks { OnOk result (AreRanks at (vectors members.new.items) ranks.new.items) }
     ensures fitting { OnOk result (AreFitting (length sum.items) limit (vectors members.new.items)) }
     ensures grows { OnOk result (Grows (vectors members.old.items) (vectors members.new.items)) }
     ensures one { OnOk result (length (vectors members.new.items) ≤ length (vectors members.old.items) + 1) }
     ensures reducible { OnOk result (IsReducible (vectors members.new.items) sum.items) }
-    ensures stage { (m : matrices.Matrix) (at : ℕ) → IsStage m at (vectors members.old.items) → IsDue m at (vectors members.old.items) sum.items → OnOk result (IsStage m at (vectors members.new.items)) }
-    ensures refused { (m : matrices.Matrix) (at : ℕ) → IsStage m at (vectors members.old.items) → IsDue m at (vectors members.old.items) sum.items → IfErr result (IsBasisFault m limit) }
+    ensures stage { (m : matrices.Matrix) → IsStage m at (vectors members.old.items) → IsDue m at (vectors members.old.items) sum.items → OnOk result (IsStage m at (vectors members.new.items)) }
+    ensures refused { (m : matrices.Matrix) → IsStage m at (vectors members.old.items) → IsDue m at (vectors members.old.items) sum.items → IfErr result (IsBasisFault m limit) }
 {
-    if is_reducible(members, signs, &sum) {
+    if is_reducible(members, ranks, &sum, at) {
         return Ok(());
     }
-    let member = leading(alloc, sum)?;
+    let member = leading(sum);
     if members.len() == limit || !is_narrow(&member) {
         return Err(BasisFault::Limit);
     }
-    let kept = signs_of(&member);
+    add_rank(ranks, &member, members.len(), at)?;
     members.push(member)?;
-    signs.push(kept)?;
     Ok(())
 }
 
 /// The one of a vector and its opposite whose first nonzero entry is positive.
-fn leading(alloc: Global, z: Vec<i64>) -> Result<Vec<i64>, AllocError>
+fn leading(z: Vec<i64>) -> Vec<i64>
     requires { All (λ x. unsigned_abs x < 2 ^ 62) z.items }
-    ensures either { IfOk result (λ w. (w.items ≡ z.items) ⊎ (w.items ≡ vector.opposite z.items)) }
-    ensures leads { vector.is_zero z.items ≡ false → IfOk result (λ w. vector.leads_positive w.items ≡ true) }
+    ensures either { (result.items ≡ z.items) ⊎ (result.items ≡ vector.opposite z.items) }
+    ensures leads { vector.is_zero z.items ≡ false → vector.leads_positive result.items ≡ true }
 {
     if leads_positive(&z) {
-        Ok(z)
+        z
     } else {
-        opposite(alloc, &z)
+        let mut turned = z;
+        turn(&mut turned);
+        turned
     }
 }

@@ -10,6 +10,7 @@ mod completion;
 mod fault;
 mod pairs;
 mod queue;
+mod ranks;
 mod slack;
 
 pub use basis::{Basis, kernel, one_basis};

@@ -140,16 +140,14 @@ fn entry_difference(x: i64, y: i64) -> i64
     x - y
 }
 
-/// The vector with all signs turned.
-pub fn opposite(alloc: Global, z: &[i64]) -> Result<Vec<i64>, AllocError>
-    requires { All (λ x. unsigned_abs x < 2 ^ 62) z.now }
-    ensures { IfOk result (λ turned. turned.items ≡ vector.opposite z.now) }
+/// Turns all signs.
+pub fn turn(z: &mut [i64])
+    requires { All (λ x. unsigned_abs x < 2 ^ 62) z.old }
+    ensures { z.new ≡ vector.opposite z.old }
 {
-    let mut turned = Vec::with_capacity(alloc, z.len())?;
-    for x in z {
-        turned.push(-*x)?;
+    for x in z.iter_mut() {
+        *x = -*x;
     }
-    Ok(turned)
 }
 
 /// Whether each entry is at most `2^31 - 1` in absolute value.

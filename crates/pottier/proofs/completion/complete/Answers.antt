@@ -1,4 +1,8 @@
-use Rattle.std.proofs.Common.{◌≡◌, ◌+◌, ◌∷◌, [], ◌∙◌, length, map, ap, sym, subst, arith}
+use Rattle.std.proofs.Common.{◌≡◌, ◌≤◌, ◌+◌, ◌∷◌, [], ◌∙◌, length, ap, sym, subst, arith}
+use Rattle.std.specs.List.{All}
+use Rattle.std.proofs.lemmas.List.Elements.{All-weaker}
+use Rattle.lattice_theory.specs.Vectors.{Vector}
+use Rattle.lattice_theory.specs.BasisLimits.{IsNarrow}
 use Rattle.std.specs.BinaryHeap.{IsHeap, heap_items}
 use Rattle.std.proofs.lemmas.List.{length-map}
 use Rattle.std.proofs.lemmas.List.Sorted.{length_permutation}
@@ -8,7 +12,7 @@ use Rattle.lattice_laws.proofs.SlackBases.{IsReducible}
 use Rattle.lattice_laws.proofs.Completion.{CoversBelow}
 use Rattle.pottier.specs.Vectors.{vectors}
 use Rattle.pottier.specs.Partners.{sum_of_pair}
-use Rattle.int_vectors.specs.Signs.{signs_of}
+use Rattle.pottier.specs.Ranks.{AreRanks}
 use Rattle.pottier.specs.Stages.{AreMembers, AreFitting, IsStage}
 use Rattle.pottier.specs.Queues.{pair_order, first_of, second_of, IsPairOf, IsPairedUp}
 use Rattle.pottier.proofs.StageLaws.{grows_length}
@@ -22,8 +26,23 @@ loop-pair-init c =
     record {
       queued = queue_started c.args.at c.args.limit (vectors c.args.members.now.items) es c.requires.fitting (subst (IsHeap pair_order) c.new-pairs.ensures.items c.new-pairs.ensures.heap_order)
           (subst (λ ms. IsPairedUp c.args.at (vectors ms) 0 (length (vectors ms)) [] es) c.deref-2.ensures.value up);
-      signs = c.in_ok-signs.ensures ∙ ap (λ ms. map signs_of (vectors ms)) c.deref.ensures.value;
+      ranks = subst (λ ms. AreRanks c.args.at (vectors ms) c.in_ok-ranks.ranks.items) c.deref.ensures.value
+          c.in_ok-ranks.ensures;
     }
+
+pub all_ranks-requires : goal.all_ranks-requires
+all_ranks-requires c =
+    subst (λ ms. All (λ (v : Vector). c.args.at ≤ length v) (vectors ms)) (sym c.deref.ensures.value)
+    (All-weaker (λ (v : Vector). (length v ≡ c.args.at + 1) × IsNarrow v) (λ (v : Vector). c.args.at ≤ length v)
+    (λ v k. omega (arith, k.0)) (vectors c.args.members.now.items) c.requires.fitting.members)
+
+pub add_sum-requires-clause-at : goal.add_sum-requires-clause-at
+add_sum-requires-clause-at c =
+    let is = c.in_ok-sum.ensures ∙ ap (λ ms. sum_of_pair c.args.at (first_of (vectors ms) c.in-Some.pair) (second_of (vectors ms) c.in-Some.pair)) c.deref-in-Some.ensures.value in
+    let size = (first_fits c.args.at c.args.limit (vectors c.args.members.now.items) (heap_items c.loop-pair.pairs)
+    (heap_items c.pop.new.self) (vectors c.loop-pair.members.items) c.in-Some.pair c.in_ok-sum.sum.items
+    c.loop-pair.invariant.queued c.in-Some.ensures.permutation is).0 in
+    omega (arith, size)
 
 pub sum_of-requires-clause-members : goal.sum_of-requires-clause-members
 sum_of-requires-clause-members c = subst (AreMembers (c.args.at + 1)) (sym (ap vectors c.deref-in-Some.ensures.value)) c.loop-pair.invariant.queued.fitting.members
@@ -49,7 +68,7 @@ returns-in_err-add_sum-clause-refused c =
     let is = c.in_ok-sum.ensures ∙ ap (λ ms. sum_of_pair c.args.at (first_of (vectors ms) c.in-Some.pair) (second_of (vectors ms) c.in-Some.pair)) c.deref-in-Some.ensures.value in
     let due = first_due m c.args.at c.args.limit (vectors c.args.members.now.items) (heap_items c.loop-pair.pairs) (heap_items c.pop.new.self) (vectors c.loop-pair.members.items) c.in-Some.pair c.in_ok-sum.sum.items c.loop-pair.invariant.queued c.in-Some.ensures.permutation c.in-Some.ensures.heap_order is stage in
     let e = err_from_is_err_and c.from_residual-in_err-add_sum.result c.from_residual-in_err-add_sum.ensures.1 in
-    rw (e.1, e.2) (c.in_err-add_sum.ensures.refused m c.args.at (c.loop-pair.invariant.queued.stage m stage) due)
+    rw (e.1, e.2) (c.in_err-add_sum.ensures.refused m (c.loop-pair.invariant.queued.stage m stage) due)
 
 pub pair_up-requires-in-Some-clause-members : goal.pair_up-requires-in-Some-clause-members
 pair_up-requires-in-Some-clause-members c =
@@ -84,13 +103,13 @@ loop-pair-preserved c =
     let count : c.len-paired.result ≡ length now = omega (arith, c.len-paired.ensures, length-map c.loop-pair.members.items (λ v. v.items)) in
     let up = subst (λ ms. IsPairedUp c.args.at (vectors ms) c.len-paired.result (length (vectors ms)) rest next) c.deref-in-Some-2.ensures.value c.in_ok-pair_up-2.ensures in
     let step = λ (m : Matrix) (stage : IsStage m c.args.at now) (covers : CoversBelow m c.args.at c.in-Some.pair.norm now).
-    c.in_ok-add_sum.ensures.stage m c.args.at stage
+    c.in_ok-add_sum.ensures.stage m stage
     (pair_due m c.args.at now c.in-Some.pair c.in_ok-sum.sum.items stage (queue_first c.args.at c.args.limit (vectors c.args.members.now.items) (heap_items c.loop-pair.pairs) (heap_items c.pop.new.self) (vectors c.loop-pair.members.items) c.in-Some.pair c.loop-pair.invariant.queued c.in-Some.ensures.permutation) is covers) in
     record {
       queued = queue_more c.args.at c.args.limit (vectors c.args.members.now.items) es rest next now later c.in-Some.pair c.loop-pair.invariant.queued c.in-Some.ensures.permutation c.in-Some.ensures.heap_order
           fits c.in_ok-add_sum.ensures.grows (subst (IsReducible later) is c.in_ok-add_sum.ensures.reducible) step
           (subst (λ n. IsPairedUp c.args.at later n (length later) rest next) count up);
-      signs = c.in_ok-add_sum.ensures.signs;
+      ranks = c.in_ok-add_sum.ensures.ranks;
     }
 
 pub returns-clause-fitting : goal.returns-clause-fitting
