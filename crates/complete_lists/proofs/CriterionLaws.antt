@@ -15,8 +15,8 @@ module _ (m : Matrix) (basis : List Vector) where
   -- an element of a unit vector that is not a member
   pub not_listed : units ≡ false → false ≡ is_complete_for m basis
   not_listed none =
-      sym (third_fails (list_all (is_signed_element m) basis) (is_rising basis) units (clashes_settle m.cols basis basis)
-      none) ∙ prefixes_decide m basis
+      sym (third_fails (list_all (is_signed_element m) basis) (is_rising basis) units
+      (clashes_settle m.cols basis basis) none) ∙ prefixes_decide m basis
     where
       third_fails : (p q r s : Bool) → r ≡ false → (p && q && r && s) ≡ false
       third_fails true true r s none = ap (λ t. t && s) none

@@ -6,13 +6,16 @@ use Rattle.std.specs.List.{AllByRecursion}
 use Rattle.std.proofs.lemmas.Int.{ints}
 use Rattle.std.proofs.lemmas.Option.{slice_get-get_or, get_or_from_slice_get}
 use Rattle.std.proofs.lemmas.List.{map_more}
-use Rattle.std.proofs.lemmas.List.Elements.{recursion_from_All, All-from_recursion, All-get_or, All-nil, All-cons, All-take, All-drop}
+use Rattle.std.proofs.lemmas.List.Elements.{recursion_from_All, All-from_recursion, All-get_or, All-nil, All-cons}
+use Rattle.std.proofs.lemmas.List.Elements.{All-take, All-drop}
 use Rattle.std.proofs.Math.IntN.{*ℤ_comm}
 use Rattle.lattice_theory.specs.Vectors.{Vector, opposite, zeros, dot}
-use Rattle.lattice_theory.specs.Matrices.{rows_of, unit_vector}
+use Rattle.lattice_theory.specs.Matrices.{Matrix, rows_of, unit_vector}
 use Rattle.lattice_theory.specs.BasisLimits.{IsNarrow}
 use Rattle.lattice_laws.proofs.Signs.{abs_opposite}
 use Rattle.lattice_laws.proofs.Products.{dot-zeros}
+use Rattle.lattice_laws.proofs.Conformal.{length-opposite}
+use Rattle.complete_lists.specs.Searches.{FitsRows}
 use Rattle.complete_lists.proofs.ScanLaws.{at-All}
 
 -- ---- unit vectors
@@ -84,6 +87,13 @@ pub IsNarrow-opposite : (v : Vector) → IsNarrow v → IsNarrow (opposite v)
 IsNarrow-opposite v narrow =
     All-from_recursion (λ a. unsigned_abs a < 2 ^ 31) (opposite v)
     (narrow_opposite v (recursion_from_All (λ a. unsigned_abs a < 2 ^ 31) v narrow))
+
+-- so one that may be a row
+pub FitsRows-opposite : (basis : Matrix) (v : Vector) → FitsRows basis v → FitsRows basis (opposite v)
+FitsRows-opposite basis v fits = record {
+  narrow = IsNarrow-opposite v fits.narrow;
+  width = length-opposite v ∙ fits.width;
+}
 
 -- ---- rows
 

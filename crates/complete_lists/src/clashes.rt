@@ -3,7 +3,6 @@
 
 ghost use Rattle.std.specs.Prelude.{◌≡◌, ◌≤◌, ◌<◌, ◌+◌, ◌||◌, length, drop, take, All, IfOk, IfSome, not, true};
 ghost use Rattle.std.specs.List.{list_all, list_any};
-ghost use Rattle.std.specs.List.Sorted.{IsPermutation};
 ghost use Rattle.lattice_theory.specs.Vectors.{add};
 ghost use Rattle.lattice_theory.specs.Vectors as vector;
 ghost use Rattle.lattice_theory.specs.BasisLimits.{IsNarrow};
@@ -12,20 +11,22 @@ ghost use Rattle.lattice_laws.proofs.Conformal.{agree};
 ghost use Rattle.criterion_laws.specs.Prefixes.{is_below_in, pair_settles};
 ghost use Rattle.criterion_laws.specs.Prefixes as prefixes;
 ghost use Rattle.complete_lists.specs.Ranks.{rows_in, signs_in, AgreeIn};
+ghost use Rattle.complete_lists.specs.Searches.{FitsRows};
 
 use crate::ranked::{Ranked, by_norm};
 use int_vectors::{Signs, are_apart, conforms, conforms_turned, has_places, signs_of};
 use mat_files::Matrix;
 use std::alloc::{AllocError, Global};
+use std::marker::Model;
 
 /// Whether what each two rows clash in behind their first `cols` entries, the second one with either sign, is settled.
 pub fn clashes_settle(alloc: Global, basis: &Matrix, cols: u32) -> Result<bool, AllocError>
     requires { All IsNarrow basis.now.rows }
     ensures { IfOk result (λ b. b ≡ prefixes.clashes_settle cols basis.now.rows basis.now.rows) }
 {
-    let settlers = settlers_of(alloc, basis, cols)?;
+    let settlers = Settlers::new(alloc, basis, cols)?;
     for row in 0..basis.rows() {
-        if !row_settles(alloc, &settlers, basis, basis.row(row + 1), row + 1)? {
+        if !settlers.row_settles(alloc, basis.row(row + 1), row + 1)? {
             return Ok(false);
         }
     }
@@ -37,7 +38,8 @@ pub fn clashes_settle(alloc: Global, basis: &Matrix, cols: u32) -> Result<bool, 
 /// The signs are those of the first places of each row, `cols` of them, in the order of norms and in that of the list.
 /// No later place may be among them, as it can be behind the clash.
 #[derive(Drop)]
-struct Settlers {
+struct Settlers<'a> {
+    basis: &'a Matrix,
     cols: u32,
     ranked: Vec<Ranked>,
     places: usize,
@@ -45,27 +47,110 @@ struct Settlers {
     listed: Vec<Signs>,
 }
 
-/// The rows of the list.
-fn settlers_of(alloc: Global, basis: &Matrix, cols: u32) -> Result<Settlers, AllocError>
-    ensures cols { IfOk result (λ s. s.cols ≡ cols) }
-    ensures rows { IfOk result (λ s. IsPermutation basis.now.rows (rows_in s.ranked.items)) }
-    ensures widths { IfOk result (λ s. All (λ v. length v ≡ basis.now.cols) (rows_in s.ranked.items)) }
-    ensures places { IfOk result (λ s. s.places ≤ s.cols) }
-    ensures signs { IfOk result (λ s. s.signs.items ≡ signs_in s.places (rows_in s.ranked.items)) }
-    ensures inside { IfOk result (λ s. s.places ≤ basis.now.cols) }
-    ensures listed { IfOk result (λ s. s.listed.items ≡ signs_in s.places basis.now.rows) }
-{
-    let ranked = by_norm(alloc, basis)?;
-    let places = cols.min(basis.cols()) as usize;
-    let signs = all_signs(alloc, &ranked, places)?;
-    let listed = listed_signs(alloc, basis, places)?;
-    Ok(Settlers {
-        cols,
-        ranked,
-        places,
-        signs,
-        listed,
-    })
+impl<'a> Model for Settlers<'a> {
+    ghost use Rattle.complete_lists.specs.Searches.{Search};
+
+    ghost Value = { Search };
+
+    ghost use Rattle.complete_lists.specs.Settlers.{AreSettlers};
+
+    ghost view = { λ s. record { cols = s.cols; basis = s.basis.now } };
+
+    ghost invariant = { λ s. AreSettlers s };
+}
+
+impl<'a> Settlers<'a> {
+    /// The rows of the list.
+    fn new(alloc: Global, basis: &'a Matrix, cols: u32) -> Result<Settlers<'a>, AllocError>
+        requires { All IsNarrow basis.now.rows }
+        ensures { IfOk result (λ s. s ≡ record { cols = cols; basis = basis.now }) }
+    {
+        let ranked = by_norm(alloc, basis)?;
+        let places = cols.min(basis.cols()) as usize;
+        let signs = all_signs(alloc, &ranked, places)?;
+        let listed = listed_signs(alloc, basis, places)?;
+        Ok(Settlers {
+            basis,
+            cols,
+            ranked,
+            places,
+            signs,
+            listed,
+        })
+    }
+
+    /// Whether what `f` and each row from a place on, counted from 0, clash in is settled, with either sign of the row.
+    fn row_settles(&self, alloc: Global, f: &[i64], from: u32) -> Result<bool, AllocError>
+        requires { FitsRows self.now.basis f.now }
+        ensures { IfOk result (λ b. b ≡ list_all (pair_settles self.now.cols self.now.basis.rows f.now)
+            (drop from self.now.basis.rows)) }
+    {
+        let turned = opposite(alloc, f)?;
+        if !self.signed_settles(alloc, f, from)? {
+            return Ok(false);
+        }
+        self.signed_settles(alloc, &turned, from)
+    }
+
+    /// Whether it is for `f` and each row from a place on as it stands.
+    fn signed_settles(&self, alloc: Global, f: &[i64], from: u32) -> Result<bool, AllocError>
+        requires { FitsRows self.now.basis f.now }
+        ensures { IfOk result (λ b. b ≡ list_all (prefixes.clash_settles self.now.cols self.now.basis.rows f.now)
+            (drop from self.now.basis.rows)) }
+    {
+        let own = signs_of(&f[..self.places]);
+        for row in from..self.basis.rows() {
+            let start = agreeing(own, self.listed[row as usize], self.places);
+            if !self.clash_settles(alloc, f, self.basis.row(row + 1), start)? {
+                return Ok(false);
+            }
+        }
+        Ok(true)
+    }
+
+    /// Whether what the two clash in is settled, where they agree before a place.
+    fn clash_settles(
+        &self,
+        alloc: Global,
+        f: &[i64],
+        g: &[i64],
+        start: usize,
+    ) -> Result<bool, AllocError>
+        requires first { FitsRows self.now.basis f.now }
+        requires second { FitsRows self.now.basis g.now }
+        requires start { start ≤ length f.now }
+        requires agree { agree (take start f.now) (take start g.now) ≡ true }
+        ensures { IfOk result (λ b. b ≡ prefixes.clash_settles self.now.cols self.now.basis.rows f.now g.now) }
+    {
+        let Some(at) = first_clash(f, g, start) else {
+            return Ok(true);
+        };
+        if at < self.cols as usize {
+            return Ok(true);
+        }
+        let sum = first_sums(alloc, f, g, at + 1)?;
+        Ok(self.has_below(&sum))
+    }
+
+    /// Whether the first entries of some row, with either sign, are conformally below `z`.
+    fn has_below(&self, z: &[i64]) -> bool
+        requires behind { self.now.cols ≤ length z.now }
+        requires within { length z.now ≤ self.now.basis.cols }
+        ensures { result ≡ list_any (is_below_in (length z.now) z.now) self.now.basis.rows }
+    {
+        let shared = signs_of(&z[..self.places]);
+        for i in 0..self.ranked.len() {
+            let row = self.ranked[i].row.as_slice();
+            if !has_places(self.signs[i], shared) {
+                continue;
+            }
+            let e = &row[..z.len()];
+            if lies_below(e, z) {
+                return true;
+            }
+        }
+        false
+    }
 }
 
 /// The signs of the first places of each row.
@@ -94,93 +179,12 @@ fn listed_signs(alloc: Global, basis: &Matrix, places: usize) -> Result<Vec<Sign
     Ok(signs)
 }
 
-/// Whether it is for `f` and each row from a place on, counted from 0.
-fn row_settles(
-    alloc: Global,
-    settlers: &Settlers,
-    basis: &Matrix,
-    f: &[i64],
-    from: u32,
-) -> Result<bool, AllocError>
-    requires rows { All IsNarrow basis.now.rows }
-    requires narrow { IsNarrow f.now }
-    requires width { length f.now ≡ basis.now.cols }
-    requires widths { All (λ v. length v ≡ basis.now.cols) (rows_in settlers.now.ranked.items) }
-    requires places { settlers.now.places ≤ settlers.now.cols }
-    requires signs { settlers.now.signs.items ≡ signs_in settlers.now.places (rows_in settlers.now.ranked.items) }
-    requires inside { settlers.now.places ≤ basis.now.cols }
-    requires listed { settlers.now.listed.items ≡ signs_in settlers.now.places basis.now.rows }
-    ensures { IfOk result (λ b. b ≡ list_all (pair_settles settlers.now.cols (rows_in settlers.now.ranked.items) f.now) (drop from basis.now.rows)) }
-{
-    let turned = opposite(alloc, f)?;
-    if !signed_settles(alloc, settlers, basis, f, from)? {
-        return Ok(false);
-    }
-    signed_settles(alloc, settlers, basis, &turned, from)
-}
-
-/// Whether it is for `f` and each row from a place on as it stands.
-fn signed_settles(
-    alloc: Global,
-    settlers: &Settlers,
-    basis: &Matrix,
-    f: &[i64],
-    from: u32,
-) -> Result<bool, AllocError>
-    requires rows { All IsNarrow basis.now.rows }
-    requires narrow { IsNarrow f.now }
-    requires width { length f.now ≡ basis.now.cols }
-    requires widths { All (λ v. length v ≡ basis.now.cols) (rows_in settlers.now.ranked.items) }
-    requires places { settlers.now.places ≤ settlers.now.cols }
-    requires signs { settlers.now.signs.items ≡ signs_in settlers.now.places (rows_in settlers.now.ranked.items) }
-    requires inside { settlers.now.places ≤ basis.now.cols }
-    requires listed { settlers.now.listed.items ≡ signs_in settlers.now.places basis.now.rows }
-    ensures { IfOk result (λ b. b ≡ list_all (prefixes.clash_settles settlers.now.cols (rows_in settlers.now.ranked.items) f.now) (drop from basis.now.rows)) }
-{
-    let own = signs_of(&f[..settlers.places]);
-    for row in from..basis.rows() {
-        let start = agreeing(own, settlers.listed[row as usize], settlers.places);
-        if !clash_settles(alloc, settlers, f, basis.row(row + 1), start)? {
-            return Ok(false);
-        }
-    }
-    Ok(true)
-}
-
 /// How many places from the first on need not be looked at, as two vectors with these signs agree there.
 fn agreeing(signs: Signs, others: Signs, places: usize) -> usize
     ensures agree { AgreeIn places signs others result }
     ensures within { result ≤ places }
 {
     if are_apart(signs, others) { places } else { 0 }
-}
-
-/// Whether what the two clash in is settled, where they agree before a place.
-fn clash_settles(
-    alloc: Global,
-    settlers: &Settlers,
-    f: &[i64],
-    g: &[i64],
-    start: usize,
-) -> Result<bool, AllocError>
-    requires narrow { IsNarrow f.now }
-    requires narrower { IsNarrow g.now }
-    requires same { length f.now ≡ length g.now }
-    requires start { start ≤ length f.now }
-    requires agree { agree (take start f.now) (take start g.now) ≡ true }
-    requires widths { All (λ v. length v ≡ length g.now) (rows_in settlers.now.ranked.items) }
-    requires places { settlers.now.places ≤ settlers.now.cols }
-    requires signs { settlers.now.signs.items ≡ signs_in settlers.now.places (rows_in settlers.now.ranked.items) }
-    ensures { IfOk result (λ b. b ≡ prefixes.clash_settles settlers.now.cols (rows_in settlers.now.ranked.items) f.now g.now) }
-{
-    let Some(at) = first_clash(f, g, start) else {
-        return Ok(true);
-    };
-    if at < settlers.cols as usize {
-        return Ok(true);
-    }
-    let sum = first_sums(alloc, f, g, at + 1)?;
-    Ok(has_below(&settlers.ranked, &settlers.signs, settlers.places, &sum))
 }
 
 /// The first place, from 0, where the two have entries of opposite signs. They agree before `start`.
@@ -219,27 +223,6 @@ fn first_sums(alloc: Global, f: &[i64], g: &[i64], entries: usize) -> Result<Vec
         sums.push(f[at] + g[at])?;
     }
     Ok(sums)
-}
-
-/// Whether the first entries of some row, with either sign, are conformally below `z`.
-fn has_below(ranked: &[Ranked], signs: &[Signs], places: usize, z: &[i64]) -> bool
-    requires long { All (λ v. length z.now ≤ length v) (rows_in ranked.now) }
-    requires places { places ≤ length z.now }
-    requires signs { signs.now ≡ signs_in places (rows_in ranked.now) }
-    ensures { result ≡ list_any (is_below_in (length z.now) z.now) (rows_in ranked.now) }
-{
-    let shared = signs_of(&z[..places]);
-    for i in 0..ranked.len() {
-        let row = ranked[i].row.as_slice();
-        if !has_places(signs[i], shared) {
-            continue;
-        }
-        let e = &row[..z.len()];
-        if lies_below(e, z) {
-            return true;
-        }
-    }
-    false
 }
 
 /// Whether `e`, with either sign, is conformally below `z`.

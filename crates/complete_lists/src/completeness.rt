@@ -60,7 +60,9 @@ fn is_less(u: &[i64], v: &[i64]) -> bool
 
 /// Whether the elements of all unit vectors are rows.
 fn units_are_listed(alloc: Global, matrix: &Matrix, basis: &Matrix) -> Result<bool, AllocError>
-    ensures { IfOk result (λ b. b ≡ list_all (λ j. vector.is_listed basis.now.rows (element matrix.now (unit_vector matrix.now.cols j))) (numbers_from 0 matrix.now.cols)) }
+    ensures { IfOk result (λ b. b ≡
+        list_all (λ j. vector.is_listed basis.now.rows (element matrix.now (unit_vector matrix.now.cols j)))
+        (numbers_from 0 matrix.now.cols)) }
 {
     for col in 0..matrix.cols() {
         if !is_listed(basis, &unit_element(alloc, matrix, col)?) {

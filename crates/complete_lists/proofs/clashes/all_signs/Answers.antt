@@ -1,4 +1,4 @@
-use Rattle.std.proofs.Common.{arith, ◌≤◌, ◌∙◌, sym, ap, map, length, Some, length-take}
+use Rattle.std.proofs.Common.{arith, ◌≤◌, ◌∙◌, ap, map, length, length-take}
 use Rattle.std.proofs.lemmas.List.{take_all, length-map}
 use Rattle.lattice_theory.specs.Vectors.{Vector}
 use Rattle.complete_lists.specs.Ranks.{rows_in, first_signs}
@@ -10,8 +10,8 @@ use Rattle.complete_lists.proofs.clashes.all_signs.Goals as goal
 pub loop-i-preserved : goal.loop-i-preserved
 loop-i-preserved c =
     let v = c.as_slice-row.result.now in
-    let there = row-there c.args.ranked.now c.loop-i.i c.index-ranked-i.result c.loop-i-test.true
-    ∙ ap Some (sym c.as_slice-row.ensures.value) in
+    let there = row-there c.args.ranked.now c.loop-i.i c.index-ranked-i.result c.as_slice-row.result.now
+    c.loop-i-test.true c.as_slice-row.ensures.value in
     signs-more c.args.places (rows_in c.args.ranked.now) c.loop-i.signs.items c.push.new.self.items c.loop-i.i v
     c.signs_of.result c.loop-i.invariant there c.signs_of.ensures c.in_ok-push.ensures.items
 
@@ -24,8 +24,8 @@ returns c =
 
 pub slice_bounds-signs_of-end : goal.slice_bounds-signs_of-end
 slice_bounds-signs_of-end c =
-    let there = row-there c.args.ranked.now c.loop-i.i c.index-ranked-i.result c.loop-i-test.true
-    ∙ ap Some (sym c.as_slice-row.ensures.value) in
+    let there = row-there c.args.ranked.now c.loop-i.i c.index-ranked-i.result c.as_slice-row.result.now
+    c.loop-i-test.true c.as_slice-row.ensures.value in
     let long = at-All (λ (v : Vector). c.args.places ≤ length v) (rows_in c.args.ranked.now) c.loop-i.i
     c.as_slice-row.result.now there c.requires in
     omega (arith, long, length-take c.args.places c.as_slice-row.result.now)

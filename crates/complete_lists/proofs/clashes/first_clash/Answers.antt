@@ -1,4 +1,5 @@
-use Rattle.std.proofs.Common.{rules, arith, ◌≡◌, ◌<◌, ◌&&◌, ◌∙◌, sym, ap, not, pos, length, take, get_or, true, w64, FitsSigned}
+use Rattle.std.proofs.Common.{rules, arith, ◌≡◌, ◌<◌, ◌&&◌, ◌∙◌, sym, ap, not, pos, length, take, get_or, true, w64}
+use Rattle.std.proofs.Common.{FitsSigned}
 use Rattle.std.proofs.lemmas.Int.{to_z-of_z}
 use Rattle.std.proofs.lemmas.List.{take_all}
 use Rattle.lattice_laws.proofs.Signs.{agrees}

@@ -1,4 +1,5 @@
-use Rattle.std.proofs.Common.{rules, arith, ◌<◌, ◌^◌, ◌++◌, ◌∷◌, [], ◌+ℤ◌, ◌∙◌, sym, ap, pos, length, get_or, unsigned_abs, w64, FitsSigned}
+use Rattle.std.proofs.Common.{rules, arith, ◌<◌, ◌^◌, ◌++◌, ◌∷◌, [], ◌+ℤ◌, ◌∙◌, sym, ap, pos, length, get_or}
+use Rattle.std.proofs.Common.{unsigned_abs, w64, FitsSigned}
 use Rattle.std.proofs.lemmas.Int.{to_z-of_z}
 use Rattle.complete_lists.proofs.ClashLaws.{sum-more}
 use Rattle.complete_lists.proofs.clashes.first_sums.Goals as goal
