@@ -2,13 +2,8 @@
 use Rattle.std.proofs.Common.{◌≡◌, pos, negsuc, [], ◌∷◌, refl, arith}
 use Rattle.fold_theory.specs.declared.Cost.TheVariants.{Quadratic}
 use Rattle.fold_theory.specs.Programs.{Program, Brick}
-use Rattle.brick_phase.specs.Bounds.{AreBetween}
 use Rattle.brick_phase.specs.Moves.{with_opposites}
 use Rattle.brick_phase.specs.Settled.{IsBrickEnd}
-
--- (2 -1) lies between (1 -1) and (2 0)
-lies_between : AreBetween (pos 1 ∷ negsuc 0 ∷ []) (pos 2 ∷ pos 0 ∷ []) (pos 2 ∷ negsuc 0 ∷ [])
-lies_between = ((record { le = tt }, (record { le = tt }, tt)), (record { le = tt }, (record { le = tt }, tt)))
 
 -- each vector is followed by its opposite
 both_signs : with_opposites ((pos 0 ∷ pos 1 ∷ []) ∷ (pos 1 ∷ negsuc 0 ∷ []) ∷ [])

@@ -1,5 +1,5 @@
 mod KnownValues
-mod BoundLaws
+mod NarrowLaws
 mod OrderLaws
 mod MoveLaws
 mod OfferLaws

@@ -15,7 +15,7 @@ use Rattle.fold_program.specs.Places.{OfBrick, ForBrick}
 use Rattle.fold_program.proofs.PlaceLaws.{for_brick}
 use Rattle.brick_phase.specs.declared.offers.Place.{Place}
 use Rattle.brick_phase.specs.declared.offers.Offer.{Offer}
-use Rattle.brick_phase.specs.Bounds.{AreBetween, Leads}
+use Rattle.step_targets.specs.Targets.{AreBetween, Leads}
 use Rattle.brick_phase.specs.Offers.{IsPlace, Lowers, IsOffer, IsOfferOf, IsBestOf, Uses, offer_cmp}
 use Rattle.brick_phase.proofs.OrderLaws.{le_itself, le_trans}
 

@@ -8,8 +8,8 @@
 mod moves;
 mod offers;
 mod settling;
+mod starts;
 mod steps;
-mod targets;
 
 pub use settling::{BrickEnd, settle_brick};
 pub use steps::BrickStep;

@@ -2,15 +2,14 @@
 
 ghost use Rattle.std.specs.Prelude.{◌≡◌, ◌<◌, ◌≤◌, ◌⊎◌, Some, length, IsTrue, IfSome, IfOk};
 ghost use Rattle.std.specs.Ordering.{is_le, is_lt};
-ghost use Rattle.lattice_theory.specs.BasisLimits.{IsNarrow};
 ghost use Rattle.fold_program.specs.Places.{ForBrick};
 ghost use Rattle.brick_phase.specs.Offers.{offer_cmp, IsPlace, IsOfferAt, IsBestOffer, FitMoves};
 
 use crate::moves::Moves;
 use crate::steps::BrickStep;
-use crate::targets::target;
 use fold_program::Program;
 use std::alloc::{AllocError, Global};
+use step_targets::target;
 
 /// A point of a brick, with its residual.
 #[derive(Debug, Drop)]
@@ -75,7 +74,6 @@ fn offer_of(
     requires from { 1 ≤ brick }
     requires to { brick ≤ length program.now.bricks }
     requires width { length vector.now ≡ program.now.link.cols }
-    requires narrow { IsNarrow vector.now }
     requires short { k < 64 }
     requires place { ForBrick program.now brick (λ b. IsPlace program.now b at.now) }
     ensures { IfOk result (IsOfferAt program.now brick at.now (record { k = k; vector = vector.now })) }

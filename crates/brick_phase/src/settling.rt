@@ -7,8 +7,8 @@ ghost use Rattle.brick_phase.specs.Settled.{IsSettled};
 
 use crate::moves::Moves;
 use crate::offers::{Offer, Place, best_offer};
+use crate::starts::nearest_point;
 use crate::steps::BrickStep;
-use crate::targets::nearest_point;
 use fold_program::Program;
 use pottier::Basis;
 use std::alloc::{AllocError, Global};

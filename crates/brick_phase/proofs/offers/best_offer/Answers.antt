@@ -15,13 +15,6 @@ offer_of-requires-clause-width c =
     (FitMoves-at c.args.program.now c.args.moves.now c.loop-vector.vector-index _ c.deref.result.now c.requires.moves
     (omega (arith, c.loop-vector-test.true, ap length c.deref-vector-items.ensures.value)) is c.deref.ensures.value).0
 
-pub offer_of-requires-clause-narrow : goal.offer_of-requires-clause-narrow
-offer_of-requires-clause-narrow c =
-    let is = vectors-at c.args.moves.now.vectors.items c.deref-vector-items.result.now c.loop-vector.vector-index c.vector-item.result
-    c.deref-vector-items.ensures.value c.loop-vector-test.true c.vector-item.is in
-    (FitMoves-at c.args.program.now c.args.moves.now c.loop-vector.vector-index _ c.deref.result.now c.requires.moves
-    (omega (arith, c.loop-vector-test.true, ap length c.deref-vector-items.ensures.value)) is c.deref.ensures.value).1
-
 pub loop-k-preserved : goal.loop-k-preserved
 loop-k-preserved c =
     λ b there.

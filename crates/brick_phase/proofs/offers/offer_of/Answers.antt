@@ -3,7 +3,7 @@ use Rattle.std.proofs.lemmas.List.Elements.{length_all_zip}
 use Rattle.fold_theory.specs.Programs.{brick_residual}
 use Rattle.run_theory.specs.BrickRuns.{BrickMove, stepped}
 use Rattle.fold_program.specs.Places.{OfBrick}
-use Rattle.brick_phase.specs.Bounds.{Leads}
+use Rattle.step_targets.specs.Targets.{Leads}
 use Rattle.brick_phase.proofs.OfferLaws.{place_width, led, nothing_outside, nothing_lower, offered}
 use Rattle.brick_phase.proofs.offers.offer_of.Goals as goal
 

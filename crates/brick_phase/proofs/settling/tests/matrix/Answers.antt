@@ -2,7 +2,7 @@ use Rattle.std.proofs.Common.{ap, sym, subst}
 use Rattle.std.specs.List.{All}
 use Rattle.lattice_theory.specs.BasisLimits.{IsNarrow}
 use Rattle.pottier.proofs.RowLaws.{rows_narrow}
-use Rattle.brick_phase.proofs.BoundLaws.{bounded_rows}
+use Rattle.brick_phase.proofs.NarrowLaws.{bounded_rows}
 use Rattle.brick_phase.proofs.settling.tests.matrix.Goals as goal
 
 pub returns-clause-narrow : goal.returns-clause-narrow

@@ -1,8 +1,8 @@
 use Rattle.std.proofs.Common.{◌≡◌, take}
 use Rattle.lattice_theory.specs.Lists.{zip_with}
 use Rattle.run_theory.specs.BrickRuns.{nearest}
-use Rattle.brick_phase.specs.Bounds.{AreBetween}
-use Rattle.brick_phase.proofs.targets.nearest_point.Given as goal
+use Rattle.step_targets.specs.Targets.{AreBetween}
+use Rattle.brick_phase.proofs.starts.nearest_point.Given as goal
 
 abbrev pub invariant-loop-at : goal.invariant-loop-at
 invariant-loop-at l = record {

@@ -2,8 +2,8 @@ use Rattle.std.proofs.Common.{◌≡◌, ◌≤ℤ◌, ◌++◌, ◌∷◌, [], 
 use Rattle.std.proofs.lemmas.Int.{to_z-of_z}
 use Rattle.std.proofs.lemmas.List.Elements.{AllZip-get_or, length_all_zip}
 use Rattle.run_theory.specs.BrickRuns.{nearest}
-use Rattle.brick_phase.proofs.BoundLaws.{AreBetween-more, AreBetween-all, zip_with-more, zip_with-all}
-use Rattle.brick_phase.proofs.targets.nearest_point.Goals as goal
+use Rattle.step_targets.proofs.BoundLaws.{AreBetween-more, AreBetween-all, zip_with-more, zip_with-all}
+use Rattle.brick_phase.proofs.starts.nearest_point.Goals as goal
 
 pub nearest_to_zero-requires : goal.nearest_to_zero-requires
 nearest_to_zero-requires c =
