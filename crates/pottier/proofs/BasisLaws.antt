@@ -89,7 +89,7 @@ kernel_narrow m elements h =
 
 -- ---- the rows of the kernel, one element after the other
 
-flat_push : (rows : List Vector) (v : Vector) → flat_map (λ row. row) (rows ++ v ∷ []) ≡ flat_map (λ row. row) rows ++ v
+pub flat_push : (rows : List Vector) (v : Vector) → flat_map (λ row. row) (rows ++ v ∷ []) ≡ flat_map (λ row. row) rows ++ v
 flat_push [] v = append-nil v
 flat_push (row ∷ rows) v = ap (λ t. row ++ t) (flat_push rows v) ∙ sym (append_assoc row (flat_map (λ (r : Vector). r) rows) v)
 

@@ -5,4 +5,5 @@ pub mod RankLaws
 pub mod QueueLaws
 pub mod RowLaws
 pub mod BasisLaws
+pub mod MemberLaws
 mod KnownValues

@@ -1,11 +1,10 @@
 -- Laws of narrow vectors, of their sums, and of the members below a vector.
 use Rattle.std.proofs.Common.{◌≡◌, ℕ, ◌+◌, ◌*◌, ◌<◌, ◌≤◌, ◌^◌, ℤ, neg_ℤ, ◌+ℤ◌, ◌-ℤ◌, unsigned_abs, true, false, ◌||◌}
 use Rattle.std.proofs.Common.{List, [], ◌∷◌, ◌++◌, length, take, drop, get_or, refl, ap, arith, sym, ◌∙◌, Contains}
-use Rattle.std.proofs.Common.{inl, inr, subst, Vec}
+use Rattle.std.proofs.Common.{inl, inr, subst}
 use Rattle.std.specs.List.{AllByRecursion}
-use Rattle.std.specs.declared.alloc.Global.{Global}
 use Rattle.std.proofs.lemmas.Int.{ints}
-use Rattle.std.proofs.lemmas.List.{map_more, take_all, get_or-map, get_or-append-add, get_or-drop, length-map}
+use Rattle.std.proofs.lemmas.List.{get_or-append-add, get_or-drop, length-map}
 use Rattle.std.proofs.lemmas.List.{length-take-le}
 use Rattle.std.proofs.lemmas.List.Elements.{recursion_from_All, All-take}
 use Rattle.lattice_theory.specs.Vectors.{Vector, conforms, norm1, add, sub, opposite}
@@ -13,7 +12,6 @@ use Rattle.lattice_theory.specs.BasisLimits.{IsNarrow}
 use Rattle.lattice_laws.proofs.Conformal.{norm1-cons, norm_agree, take-add, opposite-opposite}
 use Rattle.lattice_laws.proofs.SlackBases.{IsReducible}
 use Rattle.lattice_laws.proofs.Completion.{counts_parts}
-use Rattle.pottier.specs.Vectors.{vectors}
 use Rattle.pottier.specs.Ranks.{lies_below}
 use Rattle.pottier.specs.Partners.{partner, pair_counts, norm_of_sum}
 use Rattle.pottier.proofs.PartnerLaws.{partner_norm}
@@ -62,19 +60,3 @@ reducible_turned vs v z c below = (opposite v, inr (subst (Contains vs) (sym (op
 
 pub not_below : (v z : Vector) → conforms v z ≡ false → conforms (opposite v) z ≡ false → lies_below v z ≡ false
 not_below v z plain other = ap (λ t. t || conforms (opposite v) z) plain ∙ other
-
--- ---- the vectors of a list
-
-pub vectors_more : (members : List (Vec ℤ Global)) (i : ℕ) (x : Vec ℤ Global) → i < length members → x ≡ get_or members i x →
-    vectors (take (i + 1) members) ≡ vectors (take i members) ++ x.items ∷ []
-vectors_more members i x low e = map_more (λ v. v.items) members i x low ∙ ap (λ y. vectors (take i members) ++ y.items ∷ []) (sym e)
-
-pub vectors_all : (members : List (Vec ℤ Global)) (i : ℕ) → length members ≤ i → vectors (take i members) ≡ vectors members
-vectors_all members i low = ap vectors (take_all i members low)
-
-pub vectors_at : (members : List (Vec ℤ Global)) (i : ℕ) (x : Vec ℤ Global) → i < length members → x ≡ get_or members i x → Contains (vectors members) x.items
-vectors_at members i x low e =
-    (i, size, get_or-map (λ v. v.items) members i x x.items low ∙ ap (λ y. y.items) (sym e))
-  where
-    size : i < length (vectors members)
-    size = omega (arith, length-map members (λ v. v.items))

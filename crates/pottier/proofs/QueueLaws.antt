@@ -1,14 +1,13 @@
 -- Laws of the pairs that wait: what they leave covered, what one of them adds, and what holds once it is settled.
-use Rattle.std.proofs.Common.{◌≡◌, ℕ, suc, ◌+◌, ◌-◌, ◌*◌, ◌<◌, ◌≤◌, ◌^◌, ℤ, unsigned_abs, Vec, true, false, List, [], ◌∷◌, length, take, get_or, refl, ap, arith, sym, ◌∙◌, Contains, ◌⊎◌, inl, inr, subst}
+use Rattle.std.proofs.Common.{◌≡◌, ℕ, suc, ◌+◌, ◌-◌, ◌*◌, ◌<◌, ◌≤◌, ◌^◌, unsigned_abs, true, false, List, [], ◌∷◌, length, take, get_or, refl, ap, arith, sym, ◌∙◌, Contains, ◌⊎◌, inl, inr, subst}
 use Rattle.std.specs.List.{All, AllPairs}
 use Rattle.std.specs.List.Sorted.{IsPermutation}
 use Rattle.std.specs.BinaryHeap.{IsHeap, IsUpperBound, PopsGreatest}
 use Rattle.std.specs.Ordering.{is_lt}
-use Rattle.std.specs.declared.alloc.Global.{Global}
 use Rattle.std.proofs.lemmas.Bool.{cases_eq}
 use Rattle.std.proofs.lemmas.Bool.Decides.{nat_tests}
 use Rattle.std.proofs.Math.Seq.{take-append_seam}
-use Rattle.std.proofs.lemmas.List.{take_all, length-take, take_more, get_or_default, get_or_append_left, get_or-take, get_or-map, length-map}
+use Rattle.std.proofs.lemmas.List.{take_all, length-take, take_more, get_or_default, get_or_append_left, get_or-take}
 use Rattle.std.proofs.lemmas.List.Elements.{All-from_recursion, All-contains, All-weaker, All-nil, All-cons, All-tail, All-get_or}
 use Rattle.std.proofs.lemmas.List.Quantifiers.{all_pairs_push}
 use Rattle.std.proofs.lemmas.List.Sorted.{All-permutation, Contains-permutation, IsPermutation-sym, length_permutation}
@@ -21,7 +20,6 @@ use Rattle.lattice_laws.proofs.Conformal.{length-add}
 use Rattle.lattice_laws.proofs.Members.{contains_cases, contains_head, contains_tail}
 use Rattle.lattice_laws.proofs.SlackBases.{IsReducible}
 use Rattle.lattice_laws.proofs.Completion.{counts, Settles, CoversBelow, pairs_reduce}
-use Rattle.pottier.specs.Vectors.{vectors}
 use Rattle.pottier.specs.declared.queue.Pair.{Pair}
 use Rattle.pottier.specs.Partners.{partner, pair_counts, sum_of_pair, norm_of_sum}
 use Rattle.pottier.specs.Stages.{AreMembers, AreFitting, Grows, IsStage, IsDue, IsCompleted}
@@ -70,12 +68,6 @@ queue_ended m at limit old es now h none stage =
     queue_covers m at (suc (norm1 (take at y))) now es (h.stage m stage) h.entries (λ e (k, low, f). absurd (omega (arith, none, low))) h.awaits y inside nonzero (omega arith))
 
 -- ---- the sum of a pair
-
--- the member at a place
-pub member_is : (members : List (Vec ℤ Global)) (i : ℕ) (x : Vec ℤ Global) (now : Vector) → i < length (vectors members) → x ≡ get_or members i x → now ≡ x.items → get_or (vectors members) i [] ≡ now
-member_is members i x now low e f =
-    get_or_default (vectors members) i [] x.items low ∙ get_or-map (λ v. v.items) members i x x.items (omega (arith, low, length-map members (λ v. v.items)))
-    ∙ ap (λ y. y.items) (sym e) ∙ sym f
 
 pub member_fits : (size : ℕ) (vs : List Vector) (i : ℕ) → AreMembers size vs → i < length vs → (length (get_or vs i []) ≡ size) × IsNarrow (get_or vs i [])
 member_fits size vs i h low = All-get_or (λ z. (length z ≡ size) × IsNarrow z) vs i [] low h

@@ -1,14 +1,14 @@
 -- Laws of the ranks of members: one member more, and that a look-up may end at half the norm.
-use Rattle.std.proofs.Common.{◌≡◌, ℕ, ◌+◌, ◌/◌, ◌<◌, ◌≤◌, true, false, ◌||◌, Bool, MatchBool, leb, ltb, List, [], ◌∷◌}
-use Rattle.std.proofs.Common.{◌++◌, length, take, get_or, refl, Vec, ℤ, ap, arith, sym, ◌∙◌, Contains, ◌⊎◌, inl, inr}
+use Rattle.std.proofs.Common.{◌≡◌, ℕ, ◌+◌, ◌-◌, ◌/◌, ◌<◌, ◌≤◌, true, false, ◌||◌, Bool, MatchBool, leb, ltb, List, [], ◌∷◌}
+use Rattle.std.proofs.Common.{◌++◌, length, take, drop, get_or, refl, ap, slice_get, Some, arith, sym, ◌∙◌, Contains, ◌⊎◌, inl, inr}
 use Rattle.std.proofs.Common.{subst, leb-true, leb-false, ltb-true}
 use Rattle.std.specs.List.{All, AllWithin, insert}
-use Rattle.std.specs.declared.alloc.Global.{Global}
 use Rattle.std.specs.List.Sorted.{IsPartitionPoint, IsPermutation}
 use Rattle.std.proofs.lemmas.Bool.{cases_lt, cases_eq}
-use Rattle.std.proofs.lemmas.List.{get_or_append_left, get_or_default, length_push, get_or-map, length-map}
+use Rattle.std.proofs.lemmas.List.{get_or_append_left, get_or_default, length_push, get_or-take, get_or-drop}
+use Rattle.std.proofs.lemmas.List.{length-take, length-drop}
+use Rattle.std.proofs.lemmas.Option.{get_or_from_slice_get, slice_get_within}
 use Rattle.std.proofs.lemmas.List.Elements.{All-nil, All-contains, All-weaker, All-cons, Contains-get_or}
-use Rattle.std.proofs.lemmas.List.Elements.{AllWithin-more}
 use Rattle.std.proofs.lemmas.List.Sorted.{IsNonDecreasingBy-insert, IsPermutation-insert, All-permutation}
 use Rattle.std.proofs.lemmas.List.Sorted.{Contains-permutation}
 use Rattle.lattice_theory.specs.Vectors.{Vector, ◌⊑◌, conforms, norm1, sub, opposite}
@@ -23,11 +23,13 @@ use Rattle.lattice_laws.proofs.SlackBases.{IsSigned, IsReducible}
 use Rattle.lattice_laws.proofs.Completion.{cut_nonzero}
 use Rattle.int_vectors.specs.Signs.{signs_of}
 use Rattle.pottier.specs.declared.ranks.Rank.{Rank}
-use Rattle.pottier.specs.Vectors.{vectors}
 use Rattle.pottier.specs.Ranks.{lies_below, ranked_in, IsPlaced, IsRankOf, AreRanks}
 use Rattle.pottier.specs.Stages.{IsStage, IsDue}
-use Rattle.pottier.proofs.PairLaws.{vectors_at}
 use Rattle.pottier.proofs.StageLaws.{signed_is}
+
+-- what is read where no rank stands
+abbrev pub no_rank : Rank
+no_rank = record { norm = 0; place = 0; signs = record { up = 0; down = 0 } }
 
 pub no-ranks : (at : ℕ) → AreRanks at [] []
 no-ranks at = record {
@@ -193,37 +195,44 @@ module _ (m : Matrix) (at : ℕ) (vs : List Vector) (z : Vector) (stage : IsStag
           either true t passes = refl
           either false t passes = passes
 
+-- where all ranks of a part pass, all between its two places do
+pub AllWithin-part : (P : Rank → Type 0) (rs : List Rank) (from to : ℕ) → to ≤ length rs →
+    All P (take (to - from) (drop from rs)) → AllWithin P rs from to
+AllWithin-part P rs from to within h k d above below =
+    subst P
+    (get_or-take (to - from) (drop from rs) (k - from) d (omega (arith, above, below))
+    ∙ get_or-drop from rs (k - from) d ∙ ap (λ n. get_or rs n d) (omega (arith, above)))
+    (h (k - from) d (omega (
+      arith,
+      above,
+      below,
+      within,
+      length-take (to - from) (drop from rs),
+      length-drop from rs,
+    )))
+
+-- the ranks of a norm begin before they end
+pub begins_before : (rs : List Rank) (norm from to : ℕ) →
+    IsPartitionPoint (λ y. ltb y.norm norm ≡ true) (λ y. ltb y.norm norm ≡ false) rs from →
+    IsPartitionPoint (λ y. leb y.norm norm ≡ true) (λ y. leb y.norm norm ≡ false) rs to → from ≤ length rs → from ≤ to
+begins_before rs norm from to less same within = elim (cases_lt to from) [
+  | inr over ↦ over
+  | inl under ↦
+      let low = ltb-true (get_or rs to no_rank).norm norm (less.0 to no_rank (omega arith) under) in
+      let high = leb-false (get_or rs to no_rank).norm norm (same.1 to no_rank (omega arith) (omega arith)) in
+      absurd (omega (arith, low, high))
+]
+
 -- ---- the member of a rank
-
--- what is read where no rank stands
-abbrev pub no_rank : Rank
-no_rank = record { norm = 0; place = 0; signs = record { up = 0; down = 0 } }
-
-pub ranked_is : (members : List (Vec ℤ Global)) (r : Rank) (x : Vec ℤ Global) → IsPlaced (vectors members) r →
-    x ≡ get_or members r.place x →
-    ranked_in (vectors members) r ≡ x.items
-ranked_is members r x h is =
-    get_or_default (vectors members) r.place [] x.items h.inside
-    ∙ get_or-map (λ v. v.items) members r.place x x.items (omega (arith, h.inside, length-map members (λ v. v.items)))
-    ∙ ap (λ y. y.items) (sym is)
-
-pub ranked_there : (members : List (Vec ℤ Global)) (r : Rank) (x : Vec ℤ Global) → IsPlaced (vectors members) r →
-    x ≡ get_or members r.place x → Contains (vectors members) x.items
-ranked_there members r x h is = vectors_at members r.place x
-    (omega (arith, h.inside, length-map members (λ v. v.items))) is
-
--- one rank more is passed over
-pub passed_over : (vs : List Vector) (z : Vector) (rs : List Rank) (from i : ℕ) (d : Rank) →
-    AllWithin (λ r. lies_below (ranked_in vs r) z ≡ false) rs from i → i < length rs →
-    lies_below (ranked_in vs (get_or rs i d)) z ≡ false →
-    AllWithin (λ r. lies_below (ranked_in vs r) z ≡ false) rs from (i + 1)
-passed_over vs z rs from i d h low fails =
-    AllWithin-more (λ r. lies_below (ranked_in vs r) z ≡ false) rs from i h
-    (λ e. subst (λ r. lies_below (ranked_in vs r) z ≡ false) (get_or_default rs i d e low) fails)
 
 pub placed_at : (vs : List Vector) (rs : List Rank) (i : ℕ) (d : Rank) → All (IsPlaced vs) rs → i < length rs →
     IsPlaced vs (get_or rs i d)
 placed_at vs rs i d h low = All-contains (IsPlaced vs) rs (get_or rs i d) h (Contains-get_or rs i d low)
+
+pub ranked_there : (vs : List Vector) (r : Rank) (v : Vector) → slice_get vs r.place ≡ Some v → Contains vs v
+ranked_there vs r v is =
+    subst (Contains vs) (get_or_from_slice_get vs r.place v [] is)
+    (Contains-get_or vs r.place [] (slice_get_within vs r.place v is))
 
 -- what is said of an answer "no" may be said by what follows from it
 pub no_as : (b : Bool) (P Q R : Type 0) → MatchBool b P Q → (Q → R) → MatchBool b P R

@@ -1,13 +1,11 @@
 -- Laws of one row more and of the last row: the stage that it begins, the limits that stay passed, and the
 -- slack basis that is left.
-use Rattle.std.proofs.Common.{◌≡◌, ◌≢◌, ℕ, zero, suc, ◌+◌, ◌<◌, ◌≤◌, ◌^◌, ℤ, unsigned_abs, true, false, List, [], ◌∷◌, ◌++◌, length, map, take, drop, get_or, refl, ap, arith, sym, ◌∙◌, IsTrue, Contains, inl, inr, subst, length-append, append_assoc, add-one, pos, set, Some, slice_get, Vec}
+use Rattle.std.proofs.Common.{◌≡◌, ◌≢◌, ℕ, zero, suc, ◌+◌, ◌<◌, ◌≤◌, ◌^◌, unsigned_abs, true, false, List, [], ◌∷◌, ◌++◌, length, map, take, drop, get_or, refl, ap, arith, sym, ◌∙◌, IsTrue, Contains, inl, inr, subst, length-append, add-one, pos, set, Some, slice_get}
 use Rattle.std.specs.List.{All}
-use Rattle.std.proofs.lemmas.List.{length-map, get_or-map, take-append-drop, take_more, get_or_append_left, length_push, map-append, map_push, append-nil, nil_from_length, take_all, length-take-le}
-use Rattle.std.specs.declared.alloc.Global.{Global}
-use Rattle.std.proofs.lemmas.List.Elements.{All-contains, All-get_or, All-map, All-nil, All-cons, All-push, All-take, All-drop, All-replicate, All-weaker, Contains-get_or, Contains-append_right}
+use Rattle.std.proofs.lemmas.List.{length-map, get_or-map, take-append-drop, take_more, get_or_append_left, length_push, map_push, take_all, length-take-le}
+use Rattle.std.proofs.lemmas.List.Elements.{All-contains, All-get_or, All-map, All-nil, All-cons, All-push, All-take, All-drop, All-replicate, All-weaker, Contains-get_or}
 use Rattle.std.specs.List.Sorted.{IsSorted, IsPermutation}
-use Rattle.std.specs.Ordering.{is_lt}
-use Rattle.std.proofs.lemmas.List.Sorted.{All-permutation, Contains-permutation, IsPermutation-map, length_permutation}
+use Rattle.std.proofs.lemmas.List.Sorted.{All-permutation, Contains-permutation, length_permutation}
 use Rattle.std.proofs.lemmas.List.Kept.{AllPairs-cons}
 use Rattle.std.proofs.lemmas.Option.{slice_get-get_or}
 use Rattle.lattice_theory.specs.Vectors.{Vector, ◌⊑◌, dot, zeros, is_zero, is_rising, lex_cmp, lex_less, leads_positive, opposite}
@@ -18,15 +16,13 @@ use Rattle.lattice_laws.proofs.Conformal.{leads_not_both, opposite-opposite, opp
 use Rattle.lattice_laws.proofs.Elements.{width, with_rows, width-with_rows, lifted, lifted_in, cut-lifted, cut_in, cut_nonzero, is_lifted, element-lifted, closed_opposite}
 use Rattle.lattice_laws.proofs.Rising.{AreDifferent, rising_above, rising_tail, lex_less_irrefl, different_permutation, rising_from_sorted}
 use Rattle.lattice_laws.proofs.SlackBases.{IsSigned, exceeds_by_many}
-use Rattle.lattice_laws.proofs.Members.{contains_head}
 use Rattle.lattice_laws.proofs.UnitVectors.{first_units, without_rows, length-unit, length-first_units, units_elements, units_differ, units_cover}
 use Rattle.lattice_laws.proofs.Completion.{CoversCut}
-use Rattle.pottier.specs.Vectors.{vectors}
 use Rattle.pottier.specs.Stages.{AreMembers, AreFitting, IsStage, IsCompleted, first_rows, with_product}
+use Rattle.pottier.proofs.MemberLaws.{taken_more}
 use Rattle.pottier.specs.Faults.{LimitOnly, IsBasisFault}
 use Rattle.pottier.specs.declared.fault.BasisFault.{BasisFault}
 use Rattle.pottier.specs.declared.fault.BasisFault.TheVariants.{Limit, Memory}
-use Rattle.pottier.proofs.StageLaws.{vectors_push}
 
 -- ---- lists of lifted elements
 
@@ -160,25 +156,6 @@ completed_slack m vs h rising = record {
         let same : e ≡ z = minimal.least e inside nonzero b in
         absurd (leads_not_both z leads (ap (λ u. leads_positive (opposite u)) (sym same) ∙ k.1))
 
--- ---- lists that are taken apart
-
-pub still_member : (members done rest more : List (Vec ℤ Global)) (x : Vec ℤ Global) → members ≡ done ++ rest → rest ≡ x ∷ more → Contains (vectors members) x.items
-still_member members done rest more x e f =
-    subst (λ vs. Contains vs x.items) (sym (ap vectors e ∙ map-append (λ v. v.items) done rest))
-    (Contains-append_right (vectors done) (vectors rest) x.items (subst (λ r. Contains (vectors r) x.items) (sym f) (contains_head x.items (vectors more))))
-
-pub one_taken : (members done rest more : List (Vec ℤ Global)) (x : Vec ℤ Global) → members ≡ done ++ rest → rest ≡ x ∷ more → members ≡ (done ++ x ∷ []) ++ more
-one_taken members done rest more x e f = e ∙ ap (λ r. done ++ r) f ∙ sym (append_assoc done (x ∷ []) more)
-
-pub products_push : (row : Vector) (lists longer done : List (Vec ℤ Global)) (y x : Vec ℤ Global) → vectors lists ≡ map (with_product row) (vectors done) → longer ≡ lists ++ y ∷ [] → y.items ≡ with_product row x.items →
-    vectors longer ≡ map (with_product row) (vectors (done ++ x ∷ []))
-products_push row lists longer done y x e f g =
-    vectors_push lists longer y f ∙ (λ i. e i ++ g i ∷ [])
-    ∙ sym (ap (map (with_product row)) (map_push (λ v. v.items) done x) ∙ map_push (with_product row) (vectors done) x.items)
-
-pub all_taken : (members done rest : List (Vec ℤ Global)) → members ≡ done ++ rest → length rest ≡ 0 → done ≡ members
-all_taken members done rest e low = sym (e ∙ ap (λ r. done ++ r) (nil_from_length rest low) ∙ append-nil done)
-
 -- ---- unit vectors
 
 pub unit_set : (t j : ℕ) → j < t → set (zeros t) j (pos 1) ≡ unit_vector t j
@@ -186,8 +163,10 @@ unit_set zero j h = absurd (omega arith)
 unit_set (suc t) zero h = refl
 unit_set (suc t) (suc j) h = ap (λ v. pos 0 ∷ v) (unit_set t j (omega arith))
 
-pub units_push : (t n : ℕ) (units longer : List (Vec ℤ Global)) (y : Vec ℤ Global) → vectors units ≡ first_units t n → longer ≡ units ++ y ∷ [] → y.items ≡ unit_vector t n → vectors longer ≡ first_units t (n + 1)
-units_push t n units longer y e f g = vectors_push units longer y f ∙ (λ i. e i ++ g i ∷ []) ∙ sym (ap (first_units t) (add-one n))
+pub units_push : (t n : ℕ) (units longer : List Vector) (unit : Vector) → units ≡ first_units t n →
+    longer ≡ units ++ unit ∷ [] → unit ≡ unit_vector t n → longer ≡ first_units t (n + 1)
+units_push t n units longer unit e f g =
+    f ∙ (λ i. e i ++ g i ∷ []) ∙ sym (ap (first_units t) (add-one n))
 
 -- ---- refusals
 
@@ -206,6 +185,23 @@ limit_only P Q f Memory h = tt
 
 product_length : (row z : Vector) → length (with_product row z) ≡ length z + 1
 product_length row z = length_push z (dot row (take (length row) z))
+
+pub product_widths : (row member longer : Vector) (vs done : List Vector) (i : ℕ) →
+    All (λ v. length v ≡ length member) vs → done ≡ map (with_product row) (take i vs) →
+    longer ≡ with_product row member → All (λ v. length v ≡ length longer) done
+product_widths row member longer vs done i even e f =
+    subst (All (λ v. length v ≡ length longer)) (sym e)
+    (All-map (λ v. length v ≡ length longer) (with_product row) (take i vs)
+    (All-weaker (λ v. length v ≡ length member) (λ v. length (with_product row v) ≡ length longer)
+    (λ v k. omega (arith, k, product_length row v, product_length row member, ap length f)) (take i vs)
+    (All-take (λ v. length v ≡ length member) i vs even)))
+
+pub products_more : (row member longer : Vector) (vs done next : List Vector) (i : ℕ) →
+    done ≡ map (with_product row) (take i vs) → slice_get vs i ≡ Some member → longer ≡ with_product row member →
+    next ≡ done ++ longer ∷ [] → next ≡ map (with_product row) (take (i + 1) vs)
+products_more row member longer vs done next i e is f g =
+    g ∙ (λ k. e k ++ f k ∷ [])
+    ∙ sym (ap (map (with_product row)) (taken_more vs i member is) ∙ map_push (with_product row) (take i vs) member)
 
 pub extended_fits : (at limit : ℕ) (row : Vector) (vs more : List Vector) → AreFitting at limit vs → more ≡ map (with_product row) vs → All IsNarrow more → AreFitting (at + 1) limit more
 extended_fits at limit row vs more h e narrow = record {
@@ -229,6 +225,13 @@ units_members t zero = All-nil (λ z. (length z ≡ t) × IsNarrow z)
 units_members t (suc n) =
     All-push (λ z. (length z ≡ t) × IsNarrow z) (first_units t n) (unit_vector t n) (units_members t n) (length-unit t n, narrow_unit t n)
 
+pub units_even : (t n : ℕ) (units : List Vector) (unit : Vector) → units ≡ first_units t n → unit ≡ unit_vector t n →
+    All (λ v. length v ≡ length unit) units
+units_even t n units unit e f =
+    subst (All (λ v. length v ≡ length unit)) (sym e)
+    (All-weaker (λ v. (length v ≡ t) × IsNarrow v) (λ v. length v ≡ length unit)
+    (λ v k. omega (arith, k.0, ap length f, length-unit t n)) (first_units t n) (units_members t n))
+
 pub units_fit : (t limit : ℕ) → t ≤ limit → AreFitting t limit (first_units t t)
 units_fit t limit h = record { members = units_members t t; short = omega (arith, length-first_units t t) }
 
@@ -243,16 +246,6 @@ exceeds_by_units m limit h =
 
 -- ---- the sorted basis
 
-sorted_vectors : (members : List (Vec ℤ Global)) → IsSorted (λ x y. lex_cmp x.items y.items) members → IsSorted lex_cmp (vectors members)
-sorted_vectors [] s k d low high = absurd (omega (arith, high))
-sorted_vectors (x ∷ xs) s k d low high =
-    let size : length (vectors (x ∷ xs)) ≡ length (x ∷ xs) = length-map (x ∷ xs) (λ v. v.items) in
-    let there : k + 1 < length (x ∷ xs) = omega (arith, high, size) in
-    let one : k < length (x ∷ xs) = omega (arith, there) in
-    let first : get_or (vectors (x ∷ xs)) k d ≡ (get_or (x ∷ xs) k x).items = get_or-map (λ v. v.items) (x ∷ xs) k x d one in
-    let second : get_or (vectors (x ∷ xs)) (k + 1) d ≡ (get_or (x ∷ xs) (k + 1) x).items = get_or-map (λ v. v.items) (x ∷ xs) (k + 1) x d there in
-    (λ i. is_lt (lex_cmp (second i) (first i))) ∙ s k x low there
-
 permuted_completed : (m : Matrix) (us vs : List Vector) → IsPermutation us vs → IsCompleted m us → IsCompleted m vs
 permuted_completed m us vs p h = record {
   sound = All-permutation (IsBasisElement m) us vs p h.sound;
@@ -264,24 +257,22 @@ permuted_completed m us vs p h = record {
     signed e (inl c) = inl (Contains-permutation us vs e p c)
     signed e (inr c) = inr (Contains-permutation us vs (opposite e) p c)
 
-pub sorted_fits : (size limit : ℕ) (members sorted : List (Vec ℤ Global)) → IsPermutation members sorted → AreFitting size limit (vectors members) → AreFitting size limit (vectors sorted)
-sorted_fits size limit members sorted p h =
-    let q = IsPermutation-map (λ v. v.items) members sorted p in
-    record {
-      members = All-permutation (λ z. (length z ≡ size) × IsNarrow z) (vectors members) (vectors sorted) q h.members;
-      short = omega (arith, h.short, length_permutation (vectors members) (vectors sorted) q);
-    }
+pub sorted_fits : (size limit : ℕ) (vs sorted : List Vector) → IsPermutation vs sorted → AreFitting size limit vs →
+    AreFitting size limit sorted
+sorted_fits size limit vs sorted p h = record {
+  members = All-permutation (λ z. (length z ≡ size) × IsNarrow z) vs sorted p h.members;
+  short = omega (arith, h.short, length_permutation vs sorted p);
+}
 
-pub sorted_basis : (m : Matrix) (size limit : ℕ) (members sorted : List (Vec ℤ Global)) → IsPermutation members sorted → IsSorted (λ x y. lex_cmp x.items y.items) sorted → AreFitting size limit (vectors members) →
-    IsCompleted m (vectors members) → IsBasisWithin m limit (vectors sorted)
-sorted_basis m size limit members sorted p s h done =
-    let q = IsPermutation-map (λ v. v.items) members sorted p in
-    let fits = sorted_fits size limit members sorted p h in
-    let all = permuted_completed m (vectors members) (vectors sorted) q done in
+pub sorted_basis : (m : Matrix) (size limit : ℕ) (vs sorted : List Vector) → IsPermutation vs sorted →
+    IsSorted lex_cmp sorted → AreFitting size limit vs → IsCompleted m vs → IsBasisWithin m limit sorted
+sorted_basis m size limit vs sorted p s h done =
+    let fits = sorted_fits size limit vs sorted p h in
+    let all = permuted_completed m vs sorted p done in
     record {
-      slack = completed_slack m (vectors sorted) all (rising_from_sorted (vectors sorted) (sorted_vectors sorted s) all.different);
+      slack = completed_slack m sorted all (rising_from_sorted sorted s all.different);
       short = fits.short;
-      narrow = All-weaker (λ z. (length z ≡ size) × IsNarrow z) IsNarrow (λ z k. k.1) (vectors sorted) fits.members;
+      narrow = All-weaker (λ z. (length z ≡ size) × IsNarrow z) IsNarrow (λ z k. k.1) sorted fits.members;
     }
 
 -- ---- the rows so far

@@ -1,24 +1,22 @@
 -- Laws of the stages of a completion: what an added sum keeps, what it shows where a limit is passed, and
 -- what pairs that reduce leave covered.
-use Rattle.std.proofs.Common.{◌≡◌, ◌≢◌, ℕ, ◌<◌, ◌≤◌, true, false, List, [], ◌∷◌, ◌++◌, length, take, get_or, refl, ap, arith, sym, ◌∙◌, Contains, ◌⊎◌, inl, inr, subst, append_assoc, length-append, ℤ, ◌+ℤ◌, Vec, unsigned_abs, ◌^◌}
+use Rattle.std.proofs.Common.{◌≡◌, ◌≢◌, ℕ, ◌<◌, ◌≤◌, true, false, List, [], ◌∷◌, ◌++◌, length, take, refl, ap, arith, sym, ◌∙◌, Contains, ◌⊎◌, inl, inr, subst, append_assoc, length-append, ℤ, ◌+ℤ◌, unsigned_abs, ◌^◌, slice_get, Some}
 use Rattle.std.specs.List.{All, AllByRecursion}
 use Rattle.std.proofs.lemmas.Int.{ints}
-use Rattle.std.proofs.lemmas.List.{length_push, append-nil, map_push}
-use Rattle.std.proofs.lemmas.List.Elements.{All-from_recursion, recursion_from_All, All-contains, All-push, Contains-get_or, Contains-append_left, Contains-push}
+use Rattle.std.proofs.lemmas.List.{length_push, append-nil}
+use Rattle.std.proofs.lemmas.Option.{get_or_from_slice_get, slice_get_within}
+use Rattle.std.proofs.lemmas.List.Elements.{All-from_recursion, recursion_from_All, All-contains, All-get_or, All-push, Contains-get_or, Contains-append_left, Contains-push}
 use Rattle.std.proofs.lemmas.List.Quantifiers.{all_pairs_push}
 use Rattle.lattice_theory.specs.Vectors.{Vector, is_zero, leads_positive, norm1, add, opposite}
 use Rattle.lattice_theory.specs.Matrices.{Matrix}
 use Rattle.lattice_theory.specs.Lattices.{InLattice, IsMinimal}
 use Rattle.lattice_theory.specs.BasisLimits.{IsNarrow, IsBasisElement, ExceedsBasis}
-use Rattle.std.specs.declared.alloc.Global.{Global}
 use Rattle.lattice_laws.proofs.Conformal.{conforms_refl, length-opposite, opposite_nonzero, opposite-opposite, norm_agree, norm_some, nonzero_of_norm, norm-take, take-add}
 use Rattle.lattice_laws.proofs.Elements.{closed_add, closed_opposite, minimal-opposite}
 use Rattle.lattice_laws.proofs.Rising.{AreDifferent}
 use Rattle.lattice_laws.proofs.SlackBases.{IsSigned, IsReducible, Covers, exceeds_by_many}
 use Rattle.lattice_laws.proofs.Completion.{counts, counts_parts, CoversCut, CoversBelow, PairsReduce, completed, minimal_sum, cut_nonzero}
-use Rattle.pottier.specs.Vectors.{vectors}
 use Rattle.pottier.specs.Stages.{AreMembers, AreFitting, Grows, IsStage, IsDue, IsCompleted}
-use Rattle.pottier.proofs.PairLaws.{vectors_at}
 
 -- ---- growing lists
 
@@ -122,13 +120,13 @@ module _ (m : Matrix) (at : ℕ) (vs : List Vector) (stage : IsStage m at vs) wh
   pub stage_completed : Covers m vs → IsCompleted m vs
   stage_completed covers = record { sound = stage.sound; different = stage.different; covers = covers }
 
--- ---- members in a list that is kept
+-- ---- the member at a place
 
-pub member_at : (size : ℕ) (members : List (Vec ℤ Global)) (i : ℕ) (x : Vec ℤ Global) (now : Vector) → AreMembers size (vectors members) → i < length members → x ≡ get_or members i x →
-    now ≡ x.items → (length now ≡ size) × IsNarrow now
-member_at size members i x now h low e f =
-    subst (λ v. (length v ≡ size) × IsNarrow v) (sym f)
-    (All-contains (λ (z : Vector). (length z ≡ size) × IsNarrow z) (vectors members) x.items h (vectors_at members i x low e))
+pub member_at : (size : ℕ) (vs : List Vector) (i : ℕ) (v : Vector) → AreMembers size vs → slice_get vs i ≡ Some v →
+    (length v ≡ size) × IsNarrow v
+member_at size vs i v h is =
+    subst (λ z. (length z ≡ size) × IsNarrow z) (get_or_from_slice_get vs i v [] is)
+    (All-get_or (λ z. (length z ≡ size) × IsNarrow z) vs i [] (slice_get_within vs i v is) h)
 
 -- ---- one vector more
 
@@ -147,16 +145,10 @@ pub added_reducible : (vs : List Vector) (w z : Vector) → (w ≡ z) ⊎ (w ≡
 added_reducible vs w z (inl e) = (z, inl (subst (Contains (vs ++ w ∷ [])) e (Contains-push vs w)), conforms_refl z)
 added_reducible vs w z (inr e) = (z, inr (subst (Contains (vs ++ w ∷ [])) e (Contains-push vs w)), conforms_refl z)
 
-pub not_reducible_same : (m : Matrix) (at : ℕ) (us vs : List Vector) (y z : Vector) → us ≡ vs → y ≡ z →
-    IsStage m at vs → IsDue m at vs z →
-    ((n : Matrix) → IsStage n at us → IsDue n at us y → IsReducible us y → ⊥) → IsReducible vs z → ⊥
-not_reducible_same m at us vs y z e f stage due h r =
-    h m (subst (IsStage m at) (sym e) stage) (subst (λ x. IsDue m at us x) (sym f)
-    (subst (λ x. IsDue m at x z) (sym e) due))
-    (subst (λ x. IsReducible x y) (sym e) (subst (IsReducible vs) (sym f) r))
-
-pub vectors_push : (members more : List (Vec ℤ Global)) (x : Vec ℤ Global) → more ≡ members ++ x ∷ [] → vectors more ≡ vectors members ++ x.items ∷ []
-vectors_push members more x e = ap vectors e ∙ map_push (λ v. v.items) members x
+pub not_reducible_same : (m : Matrix) (at : ℕ) (vs : List Vector) (y z : Vector) → y ≡ z → IsStage m at vs →
+    IsDue m at vs z → ((n : Matrix) → IsStage n at vs → IsDue n at vs y → IsReducible vs y → ⊥) → IsReducible vs z → ⊥
+not_reducible_same m at vs y z f stage due h r =
+    h m stage (subst (IsDue m at vs) (sym f) due) (subst (IsReducible vs) (sym f) r)
 
 -- the sum of narrow vectors is small
 pub sum_small : (p q : Vector) → IsNarrow p → IsNarrow q → All (λ a. unsigned_abs a < 2 ^ 62) (add p q)

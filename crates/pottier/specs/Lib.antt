@@ -1,4 +1,3 @@
-pub mod Vectors
 pub mod Partners
 pub mod Stages
 pub mod Ranks

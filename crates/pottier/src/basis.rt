@@ -7,9 +7,9 @@ ghost use Rattle.lattice_theory.specs.Lattices as lattice;
 ghost use Rattle.lattice_theory.specs.Lattices.{IsSlackBasis};
 ghost use Rattle.lattice_theory.specs.BasisLimits.{IsNarrow};
 ghost use Rattle.lattice_laws.proofs.Elements.{width};
-ghost use Rattle.pottier.specs.Vectors.{vectors};
 ghost use Rattle.pottier.specs.Stages.{AreMembers};
 
+use crate::members::Members;
 use int_vectors::is_zero;
 use mat_files::Matrix;
 use std::alloc::{AllocError, Global};
@@ -19,18 +19,17 @@ use std::marker::Model;
 #[derive(Debug, Drop)]
 pub struct Basis {
     matrix: Matrix,
-    elements: Vec<Vec<i64>>,
+    elements: Members,
 }
 
 impl Model for Basis {
-    ghost use Rattle.pottier.specs.Vectors.{vectors};
     ghost use Rattle.pottier.specs.Bases as bases;
 
     ghost Value = { bases.BasisValue };
 
-    ghost view = { λ b. record { matrix = b.matrix; elements = vectors b.elements.items } };
+    ghost view = { λ b. record { matrix = b.matrix; elements = b.elements } };
 
-    ghost invariant = { λ b. bases.IsKept (record { matrix = b.matrix; elements = vectors b.elements.items }) };
+    ghost invariant = { λ b. bases.IsKept (record { matrix = b.matrix; elements = b.elements }) };
 }
 
 impl Basis {
@@ -38,12 +37,12 @@ impl Basis {
     pub(crate) fn new(
         alloc: Global,
         matrix: &Matrix,
-        elements: Vec<Vec<i64>>,
+        elements: Members,
     ) -> Result<Basis, AllocError>
-        requires elements { AreMembers (width matrix.now) (vectors elements.items) }
-        requires few { length (vectors elements.items) ≤ 2000 }
+        requires elements { AreMembers (width matrix.now) elements }
+        requires few { length elements ≤ 2000 }
         ensures matrix { IfOk result (λ b. b.matrix ≡ matrix.now) }
-        ensures elements { IfOk result (λ b. b.elements ≡ vectors elements.items) }
+        ensures elements { IfOk result (λ b. b.elements ≡ elements) }
     {
         let entries = Vec::from_slice(alloc, matrix.entries())?;
         Ok(Basis {
@@ -68,7 +67,7 @@ impl Basis {
         ensures size { length result.now ≡ width self.now.matrix }
         ensures narrow { IsNarrow result.now }
     {
-        &self.elements[i as usize]
+        self.elements.get(i as usize)
     }
 
     /// The first part `v` of an element.

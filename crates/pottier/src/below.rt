@@ -2,16 +2,15 @@
 //! each, and the entries only where they fit.
 
 ghost use Rattle.std.specs.Prelude.{◌≡◌, ◌≤◌, false, length, All, MatchBool};
-ghost use Rattle.std.specs.List.{AllWithin};
 ghost use Rattle.lattice_theory.specs.Vectors as vector;
 ghost use Rattle.lattice_theory.specs.Matrices.{Matrix};
 ghost use Rattle.lattice_laws.proofs.SlackBases.{IsReducible};
-ghost use Rattle.pottier.specs.Vectors.{vectors};
 ghost use Rattle.pottier.specs.Stages.{IsStage, IsDue};
 ghost use Rattle.pottier.specs.Ranks.{AreRanks, IsPlaced};
 ghost use Rattle.pottier.specs.Ranks as order;
 ghost use Rattle.int_vectors.specs.Signs as words;
 
+use crate::members::Members;
 use crate::ranks::Rank;
 use int_vectors::{Signs, conforms, conforms_turned, exchanged, fits, has_places, norm1, signs_of};
 
@@ -19,38 +18,36 @@ use int_vectors::{Signs, conforms, conforms_turned, exchanged, fits, has_places,
 ///
 /// Of a member below `z` and the rest of `z` one has at most half the norm, and so has a member below that. So the
 /// others are passed over, but for those of the norm of `z`, as `z` may be a member.
-pub fn is_reducible(members: &[Vec<i64>], ranks: &[Rank], z: &[i64], at: usize) -> bool
-    requires same { All (λ v. length v ≡ length z.now) (vectors members.now) }
+pub fn is_reducible(members: &Members, ranks: &[Rank], z: &[i64], at: usize) -> bool
+    requires same { All (λ v. length v ≡ length z.now) members.now }
     requires at { at ≤ length z.now }
-    requires ranks { AreRanks at (vectors members.now) ranks.now }
-    ensures { MatchBool result (IsReducible (vectors members.now) z.now) ((m : Matrix) → IsStage m at (vectors members.now) → IsDue m at (vectors members.now) z.now → IsReducible (vectors members.now) z.now → ⊥) }
+    requires ranks { AreRanks at members.now ranks.now }
+    ensures { MatchBool result (IsReducible members.now z.now) ((m : Matrix) → IsStage m at members.now → IsDue m at members.now z.now → IsReducible members.now z.now → ⊥) }
 {
     let norm = norm1(&z[..at]);
     let most = norm / 2;
     let half = ranks.partition_point(|r| r.norm <= most);
-    if has_below(members, ranks, 0, half, z) {
+    if has_below(members, &ranks[..half], z) {
         return true;
     }
     let same = ranks.partition_point(|r| r.norm < norm);
     let past = ranks.partition_point(|r| r.norm <= norm);
-    has_below(members, ranks, same, past, z)
+    has_below(members, &ranks[same..past], z)
 }
 
-/// Whether a member with a rank between two places, with either sign, is conformally below `z`.
-fn has_below(members: &[Vec<i64>], ranks: &[Rank], from: usize, to: usize, z: &[i64]) -> bool
-    requires same { All (λ v. length v ≡ length z.now) (vectors members.now) }
-    requires placed { All (IsPlaced (vectors members.now)) ranks.now }
-    requires within { to ≤ length ranks.now }
-    ensures { MatchBool result (IsReducible (vectors members.now) z.now) (AllWithin (λ r. order.lies_below (order.ranked_in (vectors members.now) r) z.now ≡ false) ranks.now from to) }
+/// Whether a member with one of these ranks, with either sign, is conformally below `z`.
+fn has_below(members: &Members, ranks: &[Rank], z: &[i64]) -> bool
+    requires same { All (λ v. length v ≡ length z.now) members.now }
+    requires placed { All (IsPlaced members.now) ranks.now }
+    ensures { MatchBool result (IsReducible members.now z.now) (All (λ r. order.lies_below (order.ranked_in members.now r) z.now ≡ false) ranks.now) }
 {
     let plain = signs_of(z);
     let turned = exchanged(plain);
-    for i in from..to {
-        let rank = ranks[i];
+    for rank in ranks {
         if !has_places(rank.signs, plain) {
             continue;
         }
-        let member = members[rank.place].as_slice();
+        let member = members.get(rank.place);
         if lies_below(member, rank.signs, z, plain)
             || turned_lies_below(member, rank.signs, z, turned)
         {

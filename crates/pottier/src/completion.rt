@@ -10,7 +10,6 @@ ghost use Rattle.lattice_theory.specs.Vectors as vector;
 ghost use Rattle.lattice_theory.specs.Matrices as matrices;
 ghost use Rattle.lattice_laws.proofs.SlackBases.{IsReducible};
 ghost use Rattle.lattice_laws.proofs.Completion.{CoversBelow};
-ghost use Rattle.pottier.specs.Vectors.{vectors};
 ghost use Rattle.pottier.specs.Partners.{sum_of_pair};
 ghost use Rattle.pottier.specs.Ranks.{AreRanks};
 ghost use Rattle.pottier.specs.Faults.{IsBasisFault};
@@ -19,6 +18,7 @@ ghost use Rattle.pottier.specs.Queues.{IsPairOf, first_of, second_of};
 
 use crate::BasisFault;
 use crate::below::is_reducible;
+use crate::members::Members;
 use crate::pairs::{is_narrow, pair_sum, turn};
 use crate::queue::{Pair, pair_up};
 use crate::ranks::{Rank, add_rank, all_ranks};
@@ -29,15 +29,15 @@ use std::collections::BinaryHeap;
 /// Adds sums of pairs until each pair's sum has a member below it. The new entry is the one at `at`.
 pub fn complete(
     alloc: Global,
-    members: &mut Vec<Vec<i64>>,
+    members: &mut Members,
     at: usize,
     limit: usize,
 ) -> Result<(), BasisFault>
     requires few { at ≤ 2016 }
-    requires fitting { AreFitting (at + 1) limit (vectors members.old.items) }
-    ensures fitting { OnOk result (AreFitting (at + 1) limit (vectors members.new.items)) }
-    ensures completed { (m : matrices.Matrix) → IsStage m at (vectors members.old.items) → OnOk result (IsCompleted m (vectors members.new.items)) }
-    ensures refused { (m : matrices.Matrix) → IsStage m at (vectors members.old.items) → IfErr result (IsBasisFault m limit) }
+    requires fitting { AreFitting (at + 1) limit members.old }
+    ensures fitting { OnOk result (AreFitting (at + 1) limit members.new) }
+    ensures completed { (m : matrices.Matrix) → IsStage m at members.old → OnOk result (IsCompleted m members.new) }
+    ensures refused { (m : matrices.Matrix) → IsStage m at members.old → IfErr result (IsBasisFault m limit) }
 {
     let mut ranks = all_ranks(alloc, members, at)?;
     let mut pairs = BinaryHeap::new(alloc);
@@ -52,38 +52,33 @@ pub fn complete(
 }
 
 /// The sum of a pair of members.
-fn sum_of(
-    alloc: Global,
-    members: &[Vec<i64>],
-    pair: Pair,
-    at: usize,
-) -> Result<Vec<i64>, AllocError>
-    requires members { AreMembers (at + 1) (vectors members.now) }
-    requires pair { IsPairOf at (vectors members.now) pair }
-    ensures { IfOk result (λ z. z.items ≡ sum_of_pair at (first_of (vectors members.now) pair) (second_of (vectors members.now) pair)) }
+fn sum_of(alloc: Global, members: &Members, pair: Pair, at: usize) -> Result<Vec<i64>, AllocError>
+    requires members { AreMembers (at + 1) members.now }
+    requires pair { IsPairOf at members.now pair }
+    ensures { IfOk result (λ z. z.items ≡ sum_of_pair at (first_of members.now pair) (second_of members.now pair)) }
 {
-    pair_sum(alloc, &members[pair.first], &members[pair.second], at)
+    pair_sum(alloc, members.get(pair.first), members.get(pair.second), at)
 }
 
 /// Adds a vector or its opposite, whichever leads positive, where no member is below it.
 fn add_sum(
-    members: &mut Vec<Vec<i64>>,
+    members: &mut Members,
     ranks: &mut Vec<Rank>,
     sum: Vec<i64>,
     at: usize,
     limit: usize,
 ) -> Result<(), BasisFault>
     requires at { at ≤ length sum.items }
-    requires ranks { AreRanks at (vectors members.old.items) ranks.old.items }
-    requires fitting { AreFitting (length sum.items) limit (vectors members.old.items) }
+    requires ranks { AreRanks at members.old ranks.old.items }
+    requires fitting { AreFitting (length sum.items) limit members.old }
     requires small { All (λ x. unsigned_abs x < 2 ^ 62) sum.items }
-    ensures ranks { OnOk result (AreRanks at (vectors members.new.items) ranks.new.items) }
-    ensures fitting { OnOk result (AreFitting (length sum.items) limit (vectors members.new.items)) }
-    ensures grows { OnOk result (Grows (vectors members.old.items) (vectors members.new.items)) }
-    ensures one { OnOk result (length (vectors members.new.items) ≤ length (vectors members.old.items) + 1) }
-    ensures reducible { OnOk result (IsReducible (vectors members.new.items) sum.items) }
-    ensures stage { (m : matrices.Matrix) → IsStage m at (vectors members.old.items) → IsDue m at (vectors members.old.items) sum.items → OnOk result (IsStage m at (vectors members.new.items)) }
-    ensures refused { (m : matrices.Matrix) → IsStage m at (vectors members.old.items) → IsDue m at (vectors members.old.items) sum.items → IfErr result (IsBasisFault m limit) }
+    ensures ranks { OnOk result (AreRanks at members.new ranks.new.items) }
+    ensures fitting { OnOk result (AreFitting (length sum.items) limit members.new) }
+    ensures grows { OnOk result (Grows members.old members.new) }
+    ensures one { OnOk result (length members.new ≤ length members.old + 1) }
+    ensures reducible { OnOk result (IsReducible members.new sum.items) }
+    ensures stage { (m : matrices.Matrix) → IsStage m at members.old → IsDue m at members.old sum.items → OnOk result (IsStage m at members.new) }
+    ensures refused { (m : matrices.Matrix) → IsStage m at members.old → IsDue m at members.old sum.items → IfErr result (IsBasisFault m limit) }
 {
     if is_reducible(members, ranks, &sum, at) {
         return Ok(());
@@ -93,7 +88,7 @@ fn add_sum(
         return Err(BasisFault::Limit);
     }
     add_rank(ranks, &member, members.len(), at)?;
-    members.push(member)?;
+    members.push(&member)?;
     Ok(())
 }
 

@@ -8,6 +8,7 @@ mod basis;
 mod below;
 mod completion;
 mod fault;
+mod members;
 mod pairs;
 mod queue;
 mod ranks;

@@ -6,10 +6,10 @@ ghost use Rattle.std.specs.Cmp.{partial_order_from_own_ties};
 ghost use Rattle.std.specs.Cmp.Rules.{comparing};
 ghost use Rattle.std.specs.Ordering.{nat_cmp, on, flip_args, as_partial_cmp};
 ghost use Rattle.std.specs.BinaryHeap.{heap_items};
-ghost use Rattle.pottier.specs.Vectors.{vectors};
 ghost use Rattle.pottier.specs.Stages.{AreMembers};
 ghost use Rattle.pottier.specs.Queues.{IsPairedUp, IsPairedWith};
 
+use crate::members::Members;
 use crate::pairs::{counts, pair_norm};
 use std::alloc::{AllocError, Global};
 use std::cmp::Ordering;
@@ -68,14 +68,14 @@ impl Ord for Pair {
 /// Adds the pairs of the members from a place on with those before them.
 pub fn pair_up(
     pairs: &mut BinaryHeap<Pair, Global>,
-    members: &[Vec<i64>],
+    members: &Members,
     from: usize,
     at: usize,
 ) -> Result<(), AllocError>
     requires few { at ≤ 2016 }
-    requires members { AreMembers (at + 1) (vectors members.now) }
-    requires from { from ≤ length (vectors members.now) }
-    ensures { OnOk result (IsPairedUp at (vectors members.now) from (length (vectors members.now)) (heap_items pairs.old) (heap_items pairs.new)) }
+    requires members { AreMembers (at + 1) members.now }
+    requires from { from ≤ length members.now }
+    ensures { OnOk result (IsPairedUp at members.now from (length members.now) (heap_items pairs.old) (heap_items pairs.new)) }
 {
     for second in from..members.len() {
         add_pairs(pairs, members, second, at)?;
@@ -86,18 +86,18 @@ pub fn pair_up(
 /// Adds the pairs of the member at a place with those before it.
 fn add_pairs(
     pairs: &mut BinaryHeap<Pair, Global>,
-    members: &[Vec<i64>],
+    members: &Members,
     second: usize,
     at: usize,
 ) -> Result<(), AllocError>
     requires few { at ≤ 2016 }
-    requires members { AreMembers (at + 1) (vectors members.now) }
-    requires second { second < length (vectors members.now) }
-    ensures { OnOk result (IsPairedWith at (vectors members.now) second second (heap_items pairs.old) (heap_items pairs.new)) }
+    requires members { AreMembers (at + 1) members.now }
+    requires second { second < length members.now }
+    ensures { OnOk result (IsPairedWith at members.now second second (heap_items pairs.old) (heap_items pairs.new)) }
 {
-    let q = members[second].as_slice();
+    let q = members.get(second);
     for first in 0..second {
-        let p = members[first].as_slice();
+        let p = members.get(first);
         if counts(p, q, at) {
             pairs.push(Pair {
                 norm: pair_norm(p, q, at),

@@ -2,9 +2,9 @@
 
 ghost use Rattle.std.specs.Prelude.{◌≡◌, ◌≤◌, ◌++◌, ◌∷◌, [], List, length, All, IfOk, OnOk};
 ghost use Rattle.lattice_theory.specs.Vectors as vector;
-ghost use Rattle.pottier.specs.Vectors.{vectors};
 ghost use Rattle.pottier.specs.Ranks.{AreRanks};
 
+use crate::members::Members;
 use int_vectors::{Signs, norm1, signs_of};
 use std::alloc::{AllocError, Global};
 
@@ -20,14 +20,13 @@ pub struct Rank {
 }
 
 /// The ranks of all members.
-pub fn all_ranks(alloc: Global, members: &[Vec<i64>], at: usize) -> Result<Vec<Rank>, AllocError>
-    requires { All (λ v. at ≤ length v) (vectors members.now) }
-    ensures { IfOk result (λ ranks. AreRanks at (vectors members.now) ranks.items) }
+pub fn all_ranks(alloc: Global, members: &Members, at: usize) -> Result<Vec<Rank>, AllocError>
+    requires { All (λ v. at ≤ length v) members.now }
+    ensures { IfOk result (λ ranks. AreRanks at members.now ranks.items) }
 {
     let mut ranks = Vec::with_capacity(alloc, members.len())?;
     for place in 0..members.len() {
-        let member = members[place].as_slice();
-        add_rank(&mut ranks, member, place, at)?;
+        add_rank(&mut ranks, members.get(place), place, at)?;
     }
     Ok(ranks)
 }

@@ -6,11 +6,11 @@ ghost use Rattle.lattice_theory.specs.Matrices as matrices;
 ghost use Rattle.lattice_theory.specs.BasisLimits.{IsNarrow, IsBasisWithin};
 ghost use Rattle.lattice_laws.proofs.Elements.{width, with_rows};
 ghost use Rattle.lattice_laws.proofs.UnitVectors.{first_units};
-ghost use Rattle.pottier.specs.Vectors.{vectors};
 ghost use Rattle.pottier.specs.Faults.{LimitOnly, IsBasisFault};
 ghost use Rattle.pottier.specs.Stages.{AreFitting, IsCompleted, with_product};
 
 use crate::completion::complete;
+use crate::members::Members;
 use crate::{Basis, BasisFault};
 use int_vectors::dot;
 use mat_files::Matrix;
@@ -41,26 +41,25 @@ pub fn slack_basis(alloc: Global, a: &Matrix, limit: u32) -> Result<Basis, Basis
     for row in 0..a.rows() {
         members = with_row(
             alloc,
-            members,
+            &members,
             a.row(row + 1),
             (a.cols() + row) as usize,
             limit as usize,
         )?;
     }
-    members.sort()?;
-    Ok(Basis::new(alloc, a, members)?)
+    Ok(Basis::new(alloc, a, members.sorted(alloc)?)?)
 }
 
 /// The unit vectors of so many entries.
-fn unit_vectors(alloc: Global, cols: usize) -> Result<Vec<Vec<i64>>, AllocError>
+fn unit_vectors(alloc: Global, cols: usize) -> Result<Members, AllocError>
     requires { cols ≤ 2000 }
-    ensures { IfOk result (λ units. vectors units.items ≡ first_units cols cols) }
+    ensures { IfOk result (λ units. units ≡ first_units cols cols) }
 {
-    let mut units = Vec::with_capacity(alloc, cols)?;
+    let mut units = Members::new(alloc);
     for col in 0..cols {
         let mut unit = vec![in alloc; 0; cols]?;
         unit[col] = 1;
-        units.push(unit)?;
+        units.push(&unit)?;
     }
     Ok(units)
 }
@@ -68,18 +67,18 @@ fn unit_vectors(alloc: Global, cols: usize) -> Result<Vec<Vec<i64>>, AllocError>
 /// The members for one row more.
 fn with_row(
     alloc: Global,
-    members: Vec<Vec<i64>>,
+    members: &Members,
     row: &[i64],
     at: usize,
     limit: usize,
-) -> Result<Vec<Vec<i64>>, BasisFault>
+) -> Result<Members, BasisFault>
     requires few { at ≤ 2016 }
     requires size { length row.now ≤ at }
     requires narrow { IsNarrow row.now }
-    requires fitting { AreFitting at limit (vectors members.items) }
-    ensures fitting { IfOk result (λ more. AreFitting (at + 1) limit (vectors more.items)) }
-    ensures completed { (m : matrices.Matrix) → m.cols ≡ length row.now → width m ≡ at → IsCompleted m (vectors members.items) → IfOk result (λ more. IsCompleted (with_rows m (row.now ∷ [])) (vectors more.items)) }
-    ensures refused { (m : matrices.Matrix) → m.cols ≡ length row.now → width m ≡ at → IsCompleted m (vectors members.items) → IfErr result (IsBasisFault (with_rows m (row.now ∷ [])) limit) }
+    requires fitting { AreFitting at limit members.now }
+    ensures fitting { IfOk result (λ more. AreFitting (at + 1) limit more) }
+    ensures completed { (m : matrices.Matrix) → m.cols ≡ length row.now → width m ≡ at → IsCompleted m members.now → IfOk result (λ more. IsCompleted (with_rows m (row.now ∷ [])) more) }
+    ensures refused { (m : matrices.Matrix) → m.cols ≡ length row.now → width m ≡ at → IsCompleted m members.now → IfErr result (IsBasisFault (with_rows m (row.now ∷ [])) limit) }
 {
     let mut members = extended(alloc, members, row)?;
     complete(alloc, &mut members, at, limit)?;
@@ -87,38 +86,40 @@ fn with_row(
 }
 
 /// Each member with its product with the row as its last entry.
-fn extended(alloc: Global, members: Vec<Vec<i64>>, row: &[i64]) -> Result<Vec<Vec<i64>>, BasisFault>
+fn extended(alloc: Global, members: &Members, row: &[i64]) -> Result<Members, BasisFault>
     requires few { length row.now ≤ 2016 }
     requires narrow { IsNarrow row.now }
-    requires members { All (λ z. (length row.now ≤ length z) × IsNarrow z) (vectors members.items) }
-    ensures products { IfOk result (λ more. vectors more.items ≡ map (with_product row.now) (vectors members.items)) }
-    ensures narrow { IfOk result (λ more. All IsNarrow (vectors more.items)) }
-    ensures refused { IfErr result (LimitOnly ((z : vector.Vector) × Contains (vectors members.items) z × (IsNarrow (with_product row.now z) → ⊥))) }
+    requires members { All (λ z. (length row.now ≤ length z) × IsNarrow z) members.now }
+    ensures products { IfOk result (λ more. more ≡ map (with_product row.now) members.now) }
+    ensures narrow { IfOk result (λ more. All IsNarrow more) }
+    ensures refused { IfErr result (LimitOnly ((z : vector.Vector) × Contains members.now z × (IsNarrow (with_product row.now z) → ⊥))) }
 {
-    let mut extended = Vec::with_capacity(alloc, members.len())?;
-    for member in members {
-        extended.push(lengthened(member, row)?)?;
+    let mut extended = Members::new(alloc);
+    for place in 0..members.len() {
+        let longer = lengthened(alloc, members.get(place), row)?;
+        extended.push(&longer)?;
     }
     Ok(extended)
 }
 
 /// The member with its product with the row as its last entry.
-fn lengthened(member: Vec<i64>, row: &[i64]) -> Result<Vec<i64>, BasisFault>
+fn lengthened(alloc: Global, member: &[i64], row: &[i64]) -> Result<Vec<i64>, BasisFault>
     requires few { length row.now ≤ 2016 }
-    requires size { length row.now ≤ length member.items }
+    requires size { length row.now ≤ length member.now }
     requires narrow { IsNarrow row.now }
-    requires narrower { IsNarrow member.items }
-    ensures product { IfOk result (λ more. more.items ≡ with_product row.now member.items) }
+    requires narrower { IsNarrow member.now }
+    ensures product { IfOk result (λ more. more.items ≡ with_product row.now member.now) }
     ensures narrow { IfOk result (λ more. IsNarrow more.items) }
-    ensures refused { IfErr result (LimitOnly (IsNarrow (with_product row.now member.items) → ⊥)) }
+    ensures refused { IfErr result (LimitOnly (IsNarrow (with_product row.now member.now) → ⊥)) }
 {
-    let mut member = member;
     let entry = dot(row, &member[..row.len()]);
     if entry.unsigned_abs() >= 1 << 31 {
         return Err(BasisFault::Limit);
     }
-    member.push(entry as i64)?;
-    Ok(member)
+    let mut longer = Vec::with_capacity(alloc, member.len() + 1)?;
+    longer.extend_from_slice(member)?;
+    longer.push(entry as i64)?;
+    Ok(longer)
 }
 
 #[cfg(test)]

@@ -1,7 +1,6 @@
 use Rattle.std.proofs.Common.{take}
-use Rattle.pottier.specs.Vectors.{vectors}
 use Rattle.pottier.specs.Ranks.{AreRanks}
 use Rattle.pottier.proofs.ranks.all_ranks.Given as goal
 
 abbrev pub invariant-loop-place : goal.invariant-loop-place
-invariant-loop-place l = AreRanks l.at (vectors (take l.place l.members)) l.ranks.items
+invariant-loop-place l = AreRanks l.at (take l.place l.members) l.ranks.items
