@@ -1,5 +1,6 @@
 -- What the moves of a brick change its cost by, one move after the other.
-use Rattle.std.proofs.Common.{◌≡◌, ℕ, zero, suc, ◌≤◌, ℤ, ◌-ℤ◌, ◌≤ℤ◌, unsigned_abs, List, [], ◌∷◌, ◌++◌, length, refl, ap, arith, sym, ◌∙◌, Some, None, Option, slice_get, subst, All, ◌⊎◌, inl, inr, pos, ◌^◌}
+use Rattle.std.proofs.Common.{◌≡◌, ℕ, zero, suc, ◌≤◌, ℤ, ◌-ℤ◌, ◌≤ℤ◌, unsigned_abs, List, [], ◌∷◌, ◌++◌, length, refl}
+use Rattle.std.proofs.Common.{ap, arith, sym, ◌∙◌, Some, None, Option, slice_get, subst, All, ◌⊎◌, inl, inr, pos, ◌^◌}
 use Rattle.std.proofs.lemmas.Option.{slice_get_within, get_or_from_slice_get}
 use Rattle.std.proofs.lemmas.Int.{ints}
 use Rattle.std.specs.Prelude.{Vec}
@@ -21,16 +22,19 @@ module _ {A : Type 0} where
   some_is a b e = cc
 
   -- what stands at a place after one more element
-  pub slice_get-push : (xs : List A) (x y : A) (j : ℕ) → slice_get (xs ++ x ∷ []) j ≡ Some y → (slice_get xs j ≡ Some y) ⊎ ((j ≡ length xs) × (x ≡ y))
+  pub slice_get-push : (xs : List A) (x y : A) (j : ℕ) → slice_get (xs ++ x ∷ []) j ≡ Some y →
+      (slice_get xs j ≡ Some y) ⊎ ((j ≡ length xs) × (x ≡ y))
   slice_get-push [] x y zero e = inr (refl, some_is x y e)
   slice_get-push [] x y (suc j) e = absurd (cc)
   slice_get-push (z ∷ xs) x y zero e = inl e
-  slice_get-push (z ∷ xs) x y (suc j) e = elim (slice_get-push xs x y j e) [ inl before ↦ inl before | inr last ↦ inr (ap suc last.0, last.1) ]
+  slice_get-push (z ∷ xs) x y (suc j) e =
+      elim (slice_get-push xs x y j e) [ inl before ↦ inl before | inr last ↦ inr (ap suc last.0, last.1) ]
 
   pub at_same : (o : Option A) (a b : A) → o ≡ Some a → o ≡ Some b → a ≡ b
   at_same o a b p q = cc
 
-pub sized_at : (zs : List Vector) (t : ℕ) (i : ℕ) (w : Vector) → All (λ z. length z ≡ t) zs → slice_get zs i ≡ Some w → length w ≡ t
+pub sized_at : (zs : List Vector) (t : ℕ) (i : ℕ) (w : Vector) → All (λ z. length z ≡ t) zs → slice_get zs i ≡ Some w →
+    length w ≡ t
 sized_at zs t i w widths there =
     sym (ap length (get_or_from_slice_get zs i w w there)) ∙ widths i w (slice_get_within zs i w there)
 
@@ -38,7 +42,8 @@ pub length-after : (k : ℕ) (v d : Vector) (n : ℕ) → length v ≡ n → len
 length-after k v d n e f = length-add v (scale (pos (2 ^ k)) d) n e (length-scale (pos (2 ^ k)) d ∙ f)
 
 -- where a move leads within the bounds, it leads there
-pub led_to : (lower upper end : Vector) (o : Option (Vec ℤ Global)) (v : Vec ℤ Global) → Leads lower upper end o → o ≡ Some v → AreBetween lower upper end × (v.items ≡ end)
+pub led_to : (lower upper end : Vector) (o : Option (Vec ℤ Global)) (v : Vec ℤ Global) → Leads lower upper end o →
+    o ≡ Some v → AreBetween lower upper end × (v.items ≡ end)
 led_to lower upper end None v h e = absurd (cc)
 led_to lower upper end (Some u) v h e =
     let same : u ≡ v = some_is u v e in
@@ -46,41 +51,46 @@ led_to lower upper end (Some u) v h e =
 
 -- the change of a move, from the costs before and after
 pub closed_change : (p : Program) (i : ℕ) (k : ℕ) (v d end lower upper : Vector) (after_cost before_cost : ℤ) →
-    OfBrick p i (λ b. lower ≡ b.lower) → OfBrick p i (λ b. upper ≡ b.upper) → AreBetween lower upper (after k v d) → end ≡ after k v d →
+    OfBrick p i (λ b. lower ≡ b.lower) → OfBrick p i (λ b. upper ≡ b.upper) → AreBetween lower upper (after k v d) →
+    end ≡ after k v d →
     OfBrick p i (λ b. after_cost ≡ brick_cost b end) → OfBrick p i (λ b. unsigned_abs after_cost ≤ brick_magnitude b) →
     OfBrick p i (λ b. before_cost ≡ brick_cost b v) → OfBrick p i (λ b. unsigned_abs before_cost ≤ brick_magnitude b) →
     OfBrick p i (λ b. IsChange Closed k b v d (Some (after_cost -ℤ before_cost)))
-closed_change p i k v d end lower upper after_cost before_cost lowers uppers between led after_is after_low before_is before_low = (
-  b,
-  lowers.1,
-  (
-    (
-      subst (λ l. AllZip ◌≤ℤ◌ l (after k v d)) lowers.2 between.0,
-      subst (λ u. AllZip ◌≤ℤ◌ (after k v d) u) (uppers.2 ∙ ap (λ (c : Brick). c.upper) (same_brick _ uppers.0 b uppers.1 lowers.1)) between.1,
-    ),
-    λ k. after_here k -ℤ before_here k,
-    omega (
-      arith,
-      ints,
-      ap brick_magnitude (same_brick _ after_low.0 b after_low.1 lowers.1),
-      after_low.2,
-      ap brick_magnitude (same_brick _ before_low.0 b before_low.1 lowers.1),
-      before_low.2,
-    ),
-  ),
-)
+closed_change p i k v d end lower upper after_cost before_cost lowers uppers between led after_is after_low before_is
+    before_low = (
+      b,
+      lowers.1,
+      (
+        (
+          subst (λ l. AllZip ◌≤ℤ◌ l (after k v d)) lowers.2 between.0,
+          subst (λ u. AllZip ◌≤ℤ◌ (after k v d) u)
+              (uppers.2 ∙ ap (λ (c : Brick). c.upper) (same_brick _ uppers.0 b uppers.1 lowers.1)) between.1,
+        ),
+        λ k. after_here k -ℤ before_here k,
+        omega (
+          arith,
+          ints,
+          ap brick_magnitude (same_brick _ after_low.0 b after_low.1 lowers.1),
+          after_low.2,
+          ap brick_magnitude (same_brick _ before_low.0 b before_low.1 lowers.1),
+          before_low.2,
+        ),
+      ),
+    )
   where
     b : Brick
     b = lowers.0
 
     after_here : after_cost ≡ brick_cost b (after k v d)
-    after_here = after_is.2 ∙ ap (λ c. brick_cost c end) (same_brick _ after_is.0 b after_is.1 lowers.1) ∙ ap (brick_cost b) led
+    after_here = after_is.2 ∙ ap (λ c. brick_cost c end) (same_brick _ after_is.0 b after_is.1 lowers.1)
+        ∙ ap (brick_cost b) led
 
     before_here : before_cost ≡ brick_cost b v
     before_here = before_is.2 ∙ ap (λ c. brick_cost c v) (same_brick _ before_is.0 b before_is.1 lowers.1)
 
 -- such a change fits
-pub change_fits : (p : Program) (i : ℕ) (a b : ℤ) → total_magnitude p ≤ 2 ^ 120 → OfBrick p i (λ b. unsigned_abs a ≤ brick_magnitude b) →
+pub change_fits : (p : Program) (i : ℕ) (a b : ℤ) → total_magnitude p ≤ 2 ^ 120 →
+    OfBrick p i (λ b. unsigned_abs a ≤ brick_magnitude b) →
     OfBrick p i (λ c. unsigned_abs b ≤ brick_magnitude c) → unsigned_abs (a -ℤ b) ≤ 2 ^ 121
 change_fits p i a b most first second =
     let left = small_in_total p i a most first in

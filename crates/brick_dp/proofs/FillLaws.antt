@@ -1,6 +1,8 @@
 -- What filling the layers stands on: points within the bounds, how large the numbers become, the last layer, and what
 -- a layer needs of the brick before it.
-use Rattle.std.proofs.Common.{◌≡◌, ℕ, zero, suc, ◌+◌, ◌^◌, ◌<◌, ◌≤◌, ℤ, unsigned_abs, List, [], ◌∷◌, ◌++◌, length, drop, take, append-nil, sum_by, refl, ap, arith, sym, ◌∙◌, Some, None, Option, slice_get, subst, All, get_or, Contains, replicate}
+use Rattle.std.proofs.Common.{◌≡◌, ℕ, zero, suc, ◌+◌, ◌^◌, ◌<◌, ◌≤◌, ℤ, unsigned_abs, List, [], ◌∷◌, ◌++◌, length, drop}
+use Rattle.std.proofs.Common.{take, append-nil, sum_by, refl, ap, arith, sym, ◌∙◌, Some, None, Option, slice_get, subst}
+use Rattle.std.proofs.Common.{All, get_or, Contains, replicate}
 use Rattle.std.proofs.lemmas.Int.{ints}
 use Rattle.std.proofs.lemmas.List.{drop_all, take_all, length-replicate}
 use Rattle.std.proofs.lemmas.List.Sums.{sum_by-take-drop}
@@ -39,7 +41,8 @@ shape_of p x program within = record {
   widths = widths_within p.link.cols (length p.brick.rows) p.bricks x program.each_brick within;
 }
 
-pub within_at : (bs : List Brick) (x : Bricks) (i : ℕ) (b : Brick) (v : Vector) → AreWithin bs x → slice_get bs i ≡ Some b → slice_get x i ≡ Some v → IsWithin b v
+pub within_at : (bs : List Brick) (x : Bricks) (i : ℕ) (b : Brick) (v : Vector) → AreWithin bs x →
+    slice_get bs i ≡ Some b → slice_get x i ≡ Some v → IsWithin b v
 within_at [] x i b v within brick at = absurd (cc)
 within_at (c ∷ bs) [] i b v within brick at = absurd within
 within_at (c ∷ bs) (u ∷ x) zero b v within brick at =
@@ -58,7 +61,8 @@ pub drop_here : {A : Type 0} (xs : List A) (k : ℕ) (x : A) → slice_get xs k 
 drop_here xs k x e =
     let low = slice_get_within xs k x e in
     let next : suc k ≡ k + 1 = omega arith in
-    drop-cons xs k x low ∙ ap (λ n. get_or xs k x ∷ drop n xs) next ∙ ap (λ y. y ∷ drop (k + 1) xs) (get_or_from_slice_get xs k x x e)
+    drop-cons xs k x low ∙ ap (λ n. get_or xs k x ∷ drop n xs) next ∙ ap (λ y. y ∷ drop (k + 1) xs)
+    (get_or_from_slice_get xs k x x e)
 
 -- ---- how large the numbers in the layers become
 
@@ -72,14 +76,20 @@ pub most_from-small : (p : Program) (i : ℕ) → total_magnitude p ≤ 2 ^ 120 
 most_from-small p i most = omega (arith, most, sum_by-drop p.bricks i)
 
 -- no walk costs more than twice all magnitudes and what its end costs
-pub most_small : (p : Program) (i : ℕ) (layer : Layer) → total_magnitude p ≤ 2 ^ 120 → AreAtMost (most_from p i) layer → AreAtMost (2 ^ 122) layer
+pub most_small : (p : Program) (i : ℕ) (layer : Layer) → total_magnitude p ≤ 2 ^ 120 →
+    AreAtMost (most_from p i) layer → AreAtMost (2 ^ 122) layer
 most_small p i layer most small = AreAtMost-more (most_from p i) (2 ^ 122) layer (most_from-small p i most) small
 
 -- moves of a menu are fair
-pub fair_menu : (f : FoldValue) (k i : ℕ) (b : Brick) (v : Vector) (menu : Menu) → total_magnitude f.program ≤ 2 ^ 120 → slice_get f.program.bricks i ≡ Some b →
+pub fair_menu : (f : FoldValue) (k i : ℕ) (b : Brick) (v : Vector) (menu : Menu) →
+    total_magnitude f.program ≤ 2 ^ 120 → slice_get f.program.bricks i ≡ Some b →
     IsBrickMenu f k b v menu → All (IsFair (length f.sums)) menu
 fair_menu f k i b v menu most brick is j m low =
-    record { low = is.low j m low; small = omega (arith, most, is.small j m low, brick_in_total f.program.bricks i b brick) }
+    record {
+      low = is.low j m low;
+      small =
+          omega (arith, most, is.small j m low, brick_in_total f.program.bricks i b brick);
+    }
 
 -- ---- a listed vector
 
@@ -94,7 +104,8 @@ listed vs j v there = (j, slice_get_within vs j v there, get_or_from_slice_get v
 pub cells_small : (f : FoldValue) (x : Bricks) (k i : ℕ) (need : ℤ) (layer : Layer) → IsLayer f x k i need layer →
     AreAtMost (most_from f.program i) layer
 cells_small f x k i need layer is j a there =
-    let (w, here) = there_at (vectors f.sums) j (omega (arith, is.under.size, slice_get_within layer j (Some a) there)) in
+    let (w, here) = there_at (vectors f.sums) j (omega (arith, is.under.size, slice_get_within layer j (Some a) there))
+    in
     let (h, walk) = is.under.walks j w a here there in
     is.small w h a (listed (vectors f.sums) j w here) walk
 
@@ -117,12 +128,14 @@ module _ (f : FoldValue) (x : Bricks) (k : ℕ) (same : length x ≡ length f.pr
       (subst (λ bs. WalkCosts f.program f.phase zs k (link_rests f.program x) bs (drop n x) w h c) bricks wc)
 
   -- the last layer, whatever a step is to gain
-  pub last_is : (layer : Layer) → IsLastLayer f k (link_rests f.program x) layer → (need : ℤ) → IsLayer f x k n need layer
+  pub last_is : (layer : Layer) → IsLastLayer f k (link_rests f.program x) layer → (need : ℤ) →
+      IsLayer f x k n need layer
   last_is layer last need = record {
     under = record {
       size = last.size;
       walks = λ j w c here cell. (cells j w (Some c) here cell).0;
-      least = λ j w h c here wc low. least j w h c here wc (there_at layer j (omega (arith, last.size, slice_get_within zs j w here)));
+      least = λ j w h c here wc low. least j w h c here wc
+          (there_at layer j (omega (arith, last.size, slice_get_within zs j w here)));
     };
     small = λ w h c there wc. small w h c (place_of zs w there) (ended w h c wc);
   }
@@ -132,7 +145,8 @@ module _ (f : FoldValue) (x : Bricks) (k : ℕ) (same : length x ≡ length f.pr
       cells j w o here cell =
           let bricks : drop n f.program.bricks ≡ [] = drop_all n f.program.bricks (omega arith) in
           let none : drop n x ≡ [] = drop_all n x (omega (arith, same)) in
-          subst (λ y. IsLeastWalk f.program f.phase zs k (link_rests f.program x) (drop n f.program.bricks) y w o) (sym none) (
+          subst (λ y. IsLeastWalk f.program f.phase zs k (link_rests f.program x) (drop n f.program.bricks) y w o)
+          (sym none) (
           subst (λ bs. IsLeastWalk f.program f.phase zs k (link_rests f.program x) bs [] w o) (sym bricks)
           (least_end f.program f.phase zs k (link_rests f.program x) w o (sym (last.cells j w o here cell)))
           )
@@ -152,9 +166,11 @@ module _ (f : FoldValue) (x : Bricks) (k : ℕ) (same : length x ≡ length f.pr
       small w (d ∷ h) c place wc = absurd (omega (arith, wc.walk.size))
 
   -- each brick may stay where it is
-  pub stays : (t place i : ℕ) (b : Brick) (v : Vector) (menu : Menu) (next : Layer) → slice_get zs place ≡ Some (zeros t) → All (λ z. length z ≡ t) zs →
+  pub stays : (t place i : ℕ) (b : Brick) (v : Vector) (menu : Menu) (next : Layer) →
+      slice_get zs place ≡ Some (zeros t) → All (λ z. length z ≡ t) zs →
       length v ≡ t → IsWithin b v → length next ≡ length zs → IsBrickMenu f k b v menu → MayStay zs menu next
-  stays t place i b v menu next listed widths size within all is = may_stay f.phase zs k t b v menu next place is.moves listed widths size within all
+  stays t place i b v menu next listed widths size within all is =
+      may_stay f.phase zs k t b v menu next place is.moves listed widths size within all
 
 -- ---- what a layer needs of the brick before it
 
@@ -168,14 +184,16 @@ pub record AtBrick (f : FoldValue) (x : Bricks) (k i : ℕ) (menu : Menu) : Type
   pub within : IsWithin brick vector
   pub menu_is : IsBrickMenu f k brick vector menu
 
-pub at_brick : (f : FoldValue) (x : Bricks) (k i : ℕ) (menus : List Menu) (menu : Menu) → IsProgram f.program → AreWithin f.program.bricks x → AreMenus f x k menus →
+pub at_brick : (f : FoldValue) (x : Bricks) (k i : ℕ) (menus : List Menu) (menu : Menu) → IsProgram f.program →
+    AreWithin f.program.bricks x → AreMenus f x k menus →
     i < length f.program.bricks → slice_get menus i ≡ Some menu → AtBrick f x k i menu
 at_brick f x k i menus menu program within menus_are low there = record {
   brick = brick.0;
   brick_there = brick.1;
   vector = vector.0;
   vector_there = vector.1;
-  width = sym (ap length (get_or_from_slice_get x i vector.0 vector.0 vector.1)) ∙ shape.widths i vector.0 (omega (arith, shape.bricks, low)) ∙ sym program.brick_shape.width;
+  width = sym (ap length (get_or_from_slice_get x i vector.0 vector.0 vector.1))
+      ∙ shape.widths i vector.0 (omega (arith, shape.bricks, low)) ∙ sym program.brick_shape.width;
   within = within_at f.program.bricks x i brick.0 vector.0 within brick.1 vector.1;
   menu_is = menus_are.each i brick.0 vector.0 menu brick.1 vector.1 there;
 }
@@ -190,17 +208,21 @@ at_brick f x k i menus menu program within menus_are low there = record {
     vector = there_at x i (omega (arith, shape.bricks, low))
 
 -- what stands in a buffer after all of it was written
-pub buffer : {A : Type 0} (new old : List A) (len : ℕ) → length new ≡ length old → len ≡ length old → take len (new ++ drop (length new) old) ≡ new
+pub buffer : {A : Type 0} (new old : List A) (len : ℕ) → length new ≡ length old → len ≡ length old →
+    take len (new ++ drop (length new) old) ≡ new
 buffer new old len same all =
-    ap (λ rest. take len (new ++ rest)) (drop_all (length new) old (omega (arith, same))) ∙ ap (take len) (append-nil new) ∙ take_all len new (omega (arith, same, all))
+    ap (λ rest. take len (new ++ rest)) (drop_all (length new) old (omega (arith, same)))
+    ∙ ap (take len) (append-nil new) ∙ take_all len new (omega (arith, same, all))
 
 -- ---- bounds for the moves over a layer
 
 -- none is known at first
-pub tops_fresh : (zs : List Vector) (from next : Layer) (tops : List (Option ℤ)) (size : ℕ) → tops ≡ replicate size None → size ≡ length zs →
+pub tops_fresh : (zs : List Vector) (from next : Layer) (tops : List (Option ℤ)) (size : ℕ) →
+    tops ≡ replicate size None → size ≡ length zs →
     AreTops zs from next tops
 tops_fresh zs from next tops size is all =
-    tops_none zs from next tops (ap length is ∙ length-replicate size None ∙ all) (λ h o there. none size h o (ap (λ ts. slice_get ts h) (sym is) ∙ there))
+    tops_none zs from next tops (ap length is ∙ length-replicate size None ∙ all)
+    (λ h o there. none size h o (ap (λ ts. slice_get ts h) (sym is) ∙ there))
   where
     none : (n h : ℕ) (o : Option ℤ) → slice_get (replicate n None) h ≡ Some o → o ≡ None
     none zero h o there = absurd (cc)
@@ -208,7 +230,8 @@ tops_fresh zs from next tops size is all =
     none (suc n) (suc h) o there = none n h o there
 
 -- those that stand in a list, over the layer that stands in one
-pub tops_same : (zs : List Vector) (limit : ℤ) (layer next : Layer) (tops others : List (Option ℤ)) → next ≡ layer → others ≡ tops →
+pub tops_same : (zs : List Vector) (limit : ℤ) (layer next : Layer) (tops others : List (Option ℤ)) → next ≡ layer →
+    others ≡ tops →
     AreTops zs (live limit layer) layer tops → AreTops zs (live limit next) next others
 tops_same zs limit layer next tops others same also are =
     subst (λ (l : Layer). AreTops zs (live limit l) l others) (sym same)

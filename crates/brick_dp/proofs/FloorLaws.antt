@@ -1,6 +1,8 @@
 -- By how much the moves of all bricks lower the cost at most, each brick taken by itself.
-use Rattle.std.proofs.Common.{◌≡◌, ℕ, zero, suc, ◌+◌, ◌-◌, ◌*◌, ◌^◌, ◌<◌, ◌≤◌, ℤ, pos, ◌+ℤ◌, ◌-ℤ◌, ◌≤ℤ◌, ◌<ℤ◌, Bool, true, false, cond, int_lt, List, [], ◌∷◌}
-use Rattle.std.proofs.Common.{length, take, drop, map, sum_by, refl, ap, arith, sym, ◌∙◌, Some, slice_get, subst, Contains, ◌⊎◌, inl, inr}
+use Rattle.std.proofs.Common.{◌≡◌, ℕ, zero, suc, ◌+◌, ◌-◌, ◌*◌, ◌^◌, ◌<◌, ◌≤◌, ℤ, pos, ◌+ℤ◌, ◌-ℤ◌, ◌≤ℤ◌, ◌<ℤ◌, Bool}
+use Rattle.std.proofs.Common.{true, false, cond, int_lt, List, [], ◌∷◌}
+use Rattle.std.proofs.Common.{length, take, drop, map, sum_by, refl, ap, arith, sym, ◌∙◌, Some, slice_get, subst}
+use Rattle.std.proofs.Common.{Contains, ◌⊎◌, inl, inr}
 use Rattle.std.proofs.Common.{unsigned_abs}
 use Rattle.std.specs.List.{filter}
 use Rattle.std.specs.Int.{int_min}
@@ -11,7 +13,8 @@ use Rattle.std.proofs.lemmas.Option.{slice_get_within, get_or_from_slice_get}
 use Rattle.lattice_theory.specs.Lists.{sum_zip}
 use Rattle.lattice_theory.specs.Vectors.{Vector, add, zeros}
 use Rattle.lattice_theory.specs.SignedSums.{vectors}
-use Rattle.lattice_laws.proofs.Members.{contains_cases, contains_head, contains_tail, mapped, mapped_from, filtered, filtered_from}
+use Rattle.lattice_laws.proofs.Members.{contains_cases, contains_head, contains_tail, mapped, mapped_from, filtered}
+use Rattle.lattice_laws.proofs.Members.{filtered_from}
 use Rattle.lattice_laws.proofs.Multiples.{scale-zeros}
 use Rattle.lattice_laws.proofs.Sums.{add_zeros}
 use Rattle.piece_laws.proofs.Bounds.{is_within_true, is_within_of}
@@ -77,10 +80,12 @@ module _ (phase : Phase) (zs : List Vector) (k : ℕ) (b : Brick) (v : Vector) w
   abbrev stays_within : Vector → Bool
   stays_within d = is_within b (after k v d)
 
-  pub least_change-low : (d : Vector) → Contains zs d → IsWithin b (after k v d) → least_change phase zs k b v ≤ℤ change_of d
+  pub least_change-low : (d : Vector) → Contains zs d → IsWithin b (after k v d) →
+      least_change phase zs k b v ≤ℤ change_of d
   least_change-low d there inside =
       let kept = filtered stays_within zs d there (is_within_of b (after k v d) inside) in
-      least-low (map change_of (filter stays_within zs)) (change_of d) (mapped change_of (filter stays_within zs) d kept)
+      least-low (map change_of (filter stays_within zs)) (change_of d) (mapped change_of (filter stays_within zs) d
+      kept)
 
   least_change-one : (least_change phase zs k b v ≡ pos 0)
       ⊎ ((d : Vector) × Contains zs d × IsWithin b (after k v d) × (change_of d ≡ least_change phase zs k b v))
@@ -97,7 +102,8 @@ module _ (phase : Phase) (zs : List Vector) (k : ℕ) (b : Brick) (v : Vector) w
           inr (d, member, is_within_true b (after k v d) passes, is)
 
   -- the least of the menu is the least change
-  pub least_of_menu : (menu : Menu) (t : ℕ) (found : ℤ) → IsMenu phase zs k b v menu → Contains zs (zeros t) → length v ≡ t →
+  pub least_of_menu : (menu : Menu) (t : ℕ) (found : ℤ) → IsMenu phase zs k b v menu → Contains zs (zeros t) →
+      length v ≡ t →
       IsWithin b v → IsLeastOf menu found → found ≡ least_change phase zs k b v
   least_of_menu menu t found is origin size inside lowest = omega (arith, ints, up, down)
     where
@@ -145,7 +151,8 @@ least_none menu = record {
 }
 
 further : (menu : Menu) (before found : ℤ) (n : ℕ) (m : PricedMove) → slice_get menu n ≡ Some m → found ≤ℤ before →
-    found ≤ℤ m.change → IsLeastUpTo menu before n → (i : ℕ) (e : PricedMove) → i < n + 1 → slice_get menu i ≡ Some e → found ≤ℤ e.change
+    found ≤ℤ m.change → IsLeastUpTo menu before n → (i : ℕ) (e : PricedMove) → i < n + 1 → slice_get menu i ≡ Some e →
+    found ≤ℤ e.change
 further menu before found n m here down low so_far i e under there = elim (cases_lt i n) [
   | inl first ↦ omega (arith, ints, down, so_far.low i e first there)
   | inr last ↦
@@ -179,8 +186,10 @@ least_all menu found n all so_far = record {
 
 -- ---- going through the bricks
 
-pub sum_zip-next : {A B : Type 0} (f : A → B → ℤ) (xs : List A) (ys : List B) (n : ℕ) (x : A) (y : B) → slice_get xs n ≡ Some x →
-    slice_get ys n ≡ Some y → sum_zip f (take (n + 1) xs) (take (n + 1) ys) ≡ (sum_zip f (take n xs) (take n ys) +ℤ f x y)
+pub sum_zip-next : {A B : Type 0} (f : A → B → ℤ) (xs : List A) (ys : List B) (n : ℕ) (x : A) (y : B) →
+    slice_get xs n ≡ Some x →
+    slice_get ys n ≡ Some y → sum_zip f (take (n + 1) xs) (take (n + 1) ys) ≡ (sum_zip f (take n xs) (take n ys) +ℤ f x
+    y)
 sum_zip-next f [] ys n x y here there = absurd (cc)
 sum_zip-next f (a ∷ xs) [] n x y here there = absurd (cc)
 sum_zip-next f (a ∷ xs) (c ∷ ys) zero x y here there =
@@ -200,18 +209,22 @@ pub floor_more : (f : FoldValue) (x : Bricks) (k n : ℕ) (menu : Menu) (floor f
     floor ≡ least_before f.program f.phase (vectors f.sums) x k n →
     (floor +ℤ found) ≡ least_before f.program f.phase (vectors f.sums) x k (n + 1)
 floor_more f x k n menu floor found here origin lowest so_far =
-    let change = least_of_menu f.phase (vectors f.sums) k here.brick here.vector menu f.program.brick.cols found here.menu_is.moves origin
+    let change = least_of_menu f.phase (vectors f.sums) k here.brick here.vector menu f.program.brick.cols found
+    here.menu_is.moves origin
     here.width here.within lowest in
-    let next = sum_zip-next (least_change f.phase (vectors f.sums) k) f.program.bricks x n here.brick here.vector here.brick_there here.vector_there in
+    let next = sum_zip-next (least_change f.phase (vectors f.sums) k) f.program.bricks x n here.brick here.vector
+    here.brick_there here.vector_there in
     omega (arith, ints, change, next, so_far)
 
-pub floor_small : (f : FoldValue) (x : Bricks) (k n : ℕ) (menu : Menu) (floor found : ℤ) (most : ℕ) → AtBrick f x k n menu → IsLeastOf menu found →
+pub floor_small : (f : FoldValue) (x : Bricks) (k n : ℕ) (menu : Menu) (floor found : ℤ) (most : ℕ) →
+    AtBrick f x k n menu → IsLeastOf menu found →
     unsigned_abs floor + 2 * sum_by brick_magnitude (drop n f.program.bricks) ≤ most →
     unsigned_abs (floor +ℤ found) + 2 * sum_by brick_magnitude (drop (n + 1) f.program.bricks) ≤ most
 floor_small f x k n menu floor found most here lowest so_far =
     omega (arith, ints, so_far, split, small)
   where
-    split : sum_by brick_magnitude (drop n f.program.bricks) ≡ brick_magnitude here.brick + sum_by brick_magnitude (drop (n + 1) f.program.bricks)
+    split : sum_by brick_magnitude (drop n f.program.bricks) ≡ brick_magnitude here.brick + sum_by brick_magnitude
+        (drop (n + 1) f.program.bricks)
     split = ap (sum_by brick_magnitude) (drop_here f.program.bricks n here.brick here.brick_there)
         ∙ sum_by-cons brick_magnitude here.brick (drop (n + 1) f.program.bricks)
 
@@ -221,7 +234,8 @@ floor_small f x k n menu floor found most here lowest so_far =
       | inr (i, m, there, cost) ↦
           let low = here.menu_is.small i m (slice_get_within menu i m there) in
           let change : unsigned_abs m.change ≤ 2 * brick_magnitude here.brick =
-          subst (λ (m : PricedMove). unsigned_abs m.change ≤ 2 * brick_magnitude here.brick) (get_or_from_slice_get menu i m m there) low in
+          subst (λ (m : PricedMove). unsigned_abs m.change ≤ 2 * brick_magnitude here.brick)
+          (get_or_from_slice_get menu i m m there) low in
           omega (arith, ints, change, cost)
     ]
 
@@ -231,36 +245,47 @@ pub floor_less : (f : FoldValue) (x : Bricks) (k n : ℕ) (menu : Menu) (floor f
     floor ≡ least_before f.program f.phase (vectors f.sums) x k (n + 1) →
     (floor -ℤ found) ≡ least_before f.program f.phase (vectors f.sums) x k n
 floor_less f x k n menu floor found here origin lowest so_far =
-    let more = floor_more f x k n menu (least_before f.program f.phase (vectors f.sums) x k n) found here origin lowest refl in
+    let more = floor_more f x k n menu (least_before f.program f.phase (vectors f.sums) x k n) found here origin lowest
+    refl in
     omega (arith, ints, more, so_far)
 
-pub floor_down : (f : FoldValue) (x : Bricks) (k n : ℕ) (menu : Menu) (floor found : ℤ) (most : ℕ) → AtBrick f x k n menu → IsLeastOf menu found →
+pub floor_down : (f : FoldValue) (x : Bricks) (k n : ℕ) (menu : Menu) (floor found : ℤ) (most : ℕ) →
+    AtBrick f x k n menu → IsLeastOf menu found →
     unsigned_abs floor ≤ most + 2 * sum_by brick_magnitude (drop (n + 1) f.program.bricks) →
     unsigned_abs (floor -ℤ found) ≤ most + 2 * sum_by brick_magnitude (drop n f.program.bricks)
 floor_down f x k n menu floor found most here lowest so_far =
-    let one = floor_small f x k n menu (pos 0) found (2 * sum_by brick_magnitude (drop n f.program.bricks)) here lowest (omega (arith, ints)) in
+    let one = floor_small f x k n menu (pos 0) found (2 * sum_by brick_magnitude (drop n f.program.bricks)) here lowest
+    (omega (arith, ints)) in
     omega (arith, ints, one, so_far)
 
 -- the same before one more brick, from the last one on
-pub floor_next : (f : FoldValue) (x : Bricks) (k done : ℕ) (menu : Menu) (floor found : ℤ) → done < length f.program.bricks →
-    AtBrick f x k (length f.program.bricks - done - 1) menu → Contains (vectors f.sums) (zeros f.program.brick.cols) → IsLeastOf menu found →
+pub floor_next : (f : FoldValue) (x : Bricks) (k done : ℕ) (menu : Menu) (floor found : ℤ) →
+    done < length f.program.bricks →
+    AtBrick f x k (length f.program.bricks - done - 1) menu → Contains (vectors f.sums) (zeros f.program.brick.cols) →
+    IsLeastOf menu found →
     floor ≡ least_before f.program f.phase (vectors f.sums) x k (length f.program.bricks - done) →
-    unsigned_abs floor ≤ 2 * total_magnitude f.program + 2 * sum_by brick_magnitude (drop (length f.program.bricks - done) f.program.bricks) →
+    unsigned_abs floor ≤ 2 * total_magnitude f.program + 2 * sum_by brick_magnitude
+    (drop (length f.program.bricks - done) f.program.bricks) →
     ((floor -ℤ found) ≡ least_before f.program f.phase (vectors f.sums) x k (length f.program.bricks - (done + 1)))
-    × (unsigned_abs (floor -ℤ found) ≤ 2 * total_magnitude f.program + 2 * sum_by brick_magnitude (drop (length f.program.bricks - (done + 1)) f.program.bricks))
+    × (unsigned_abs (floor -ℤ found) ≤ 2 * total_magnitude f.program + 2 * sum_by brick_magnitude
+    (drop (length f.program.bricks - (done + 1)) f.program.bricks))
 floor_next f x k done menu floor found low here origin lowest so_far small =
     let n = length f.program.bricks in
     let joined : n - done ≡ n - done - 1 + 1 = omega (arith, low) in
     let place : n - done - 1 ≡ n - (done + 1) = omega arith in
-    let before = floor_less f x k (n - done - 1) menu floor found here origin lowest (so_far ∙ ap (least_before f.program f.phase (vectors f.sums) x k) joined) in
+    let before = floor_less f x k (n - done - 1) menu floor found here origin lowest
+    (so_far ∙ ap (least_before f.program f.phase (vectors f.sums) x k) joined) in
     let down = floor_down f x k (n - done - 1) menu floor found (2 * total_magnitude f.program) here lowest
-    (subst (λ i. unsigned_abs floor ≤ 2 * total_magnitude f.program + 2 * sum_by brick_magnitude (drop i f.program.bricks)) joined small) in (
+    (subst (λ i. unsigned_abs floor ≤ 2 * total_magnitude f.program + 2 * sum_by brick_magnitude
+    (drop i f.program.bricks)) joined small) in (
       before ∙ ap (least_before f.program f.phase (vectors f.sums) x k) place,
-      subst (λ i. unsigned_abs (floor -ℤ found) ≤ 2 * total_magnitude f.program + 2 * sum_by brick_magnitude (drop i f.program.bricks)) place down,
+      subst (λ i. unsigned_abs (floor -ℤ found) ≤ 2 * total_magnitude f.program + 2 * sum_by brick_magnitude
+          (drop i f.program.bricks)) place down,
     )
 
 pub floor_fits : (f : FoldValue) (i : ℕ) (floor : ℤ) → total_magnitude f.program ≤ 2 ^ 120 →
-    unsigned_abs floor ≤ 2 * total_magnitude f.program + 2 * sum_by brick_magnitude (drop i f.program.bricks) → unsigned_abs floor ≤ 2 ^ 122
+    unsigned_abs floor ≤ 2 * total_magnitude f.program + 2 * sum_by brick_magnitude (drop i f.program.bricks) →
+    unsigned_abs floor ≤ 2 ^ 122
 floor_fits f i floor most small = omega (arith, most, small, sum_by-take-drop brick_magnitude f.program.bricks i)
 
 -- ---- walks
@@ -275,7 +300,8 @@ module _ (p : Program) (phase : Phase) (zs : List Vector) (k : ℕ) (rests : Vec
     pub walk : WalkCosts p phase zs k rests (drop n bs) (drop n x) sum moves rest
     pub low : (sum_zip (least_change phase zs k) (take n bs) (take n x) +ℤ rest) ≤ℤ c
 
-  pub passes : (bs : List Brick) (x : Bricks) (n : ℕ) (w : Vector) (h : Bricks) (c : ℤ) → n ≤ length bs → Contains zs w →
+  pub passes : (bs : List Brick) (x : Bricks) (n : ℕ) (w : Vector) (h : Bricks) (c : ℤ) → n ≤ length bs →
+      Contains zs w →
       WalkCosts p phase zs k rests bs x w h c → Passes bs x n c
   passes bs x zero w h c few there wc =
       record { sum = w; there = there; moves = h; rest = c; walk = wc; low = omega (arith, ints) }

@@ -1,6 +1,7 @@
 pub mod CostLaws
 pub mod ChangeLaws
 pub mod MenuLaws
+pub mod BlockLaws
 pub mod LayerLaws
 pub mod EndLaws
 pub mod FillLaws
@@ -9,6 +10,7 @@ pub mod ReadLaws
 pub mod NeedLaws
 pub mod FloorLaws
 pub mod UnderLaws
+pub mod PassLaws
 pub mod TriedLaws
 pub mod BestLaws
 mod KnownValues

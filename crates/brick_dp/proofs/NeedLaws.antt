@@ -1,5 +1,6 @@
 -- The best step from the best walk, and the answer where no walk lowers the cost by what is needed.
-use Rattle.std.proofs.Common.{◌≡◌, ℕ, ◌^◌, ◌<◌, ℤ, pos, ◌-ℤ◌, ◌≤ℤ◌, ◌<ℤ◌, Bool, true, false, not, List, length, refl, ap, arith, sym, ◌∙◌}
+use Rattle.std.proofs.Common.{◌≡◌, ℕ, ◌^◌, ◌<◌, ℤ, pos, ◌-ℤ◌, ◌≤ℤ◌, ◌<ℤ◌, Bool, true, false, not, List, length, refl}
+use Rattle.std.proofs.Common.{ap, arith, sym, ◌∙◌}
 use Rattle.std.proofs.Common.{Some, None, Option, subst, All, inl, inr, unsigned_abs, int_lt}
 use Rattle.std.proofs.lemmas.Int.{ints}
 use Rattle.std.proofs.lemmas.Bool.Decides.{nat_tests}
@@ -33,7 +34,8 @@ not_is true e = absurd (cc)
 not_is false e = refl
 
 module _ (f : FoldValue) (x : Bricks) (k : ℕ) (program : IsProgram f.program) (within : AreWithin f.program.bricks x)
-    (cols : f.program.brick.cols ≡ f.program.link.cols) (widths : All (λ z. length z ≡ f.program.brick.cols) (vectors f.sums)) where
+    (cols : f.program.brick.cols ≡ f.program.link.cols) (widths : All (λ z. length z ≡ f.program.brick.cols)
+    (vectors f.sums)) where
   abbrev zs : List Vector
   zs = vectors f.sums
 
@@ -44,8 +46,15 @@ module _ (f : FoldValue) (x : Bricks) (k : ℕ) (program : IsProgram f.program) 
 
   -- the best walk is the best step, where it lowers the cost
   pub best_found : (h : Bricks) (total : ℤ) → IsLength f.program k → total <ℤ pos 0 →
-      IsBestWalk f.program f.phase zs k (link_rests f.program x) f.program.bricks x (zeros f.program.brick.cols) h total →
-      IsFound f x k (record { k = k; gain = unsigned_abs total; bricks = nonzero_from 1 h; entries = nonzero_entries h })
+      IsBestWalk f.program f.phase zs k (link_rests f.program x) f.program.bricks x (zeros f.program.brick.cols) h
+      total →
+      IsFound f x k (record {
+        k = k;
+        gain = unsigned_abs total;
+        bricks = nonzero_from 1 h;
+        entries =
+            nonzero_entries h;
+      })
   best_found h total fits low best =
       (h, record { augments = augments; first = best_is_first f.program f.phase zs k x wx widths h total best }, steps)
     where
@@ -63,10 +72,12 @@ module _ (f : FoldValue) (x : Bricks) (k : ℕ) (program : IsProgram f.program) 
       steps = λ i. record { k = k; gain = gains i; bricks = nonzero_from 1 h; entries = nonzero_entries h }
 
   -- where no walk lowers the cost by what the bound asks for, no step gains, or the bound beats the best one
-  pub beaten_by_need : (bound : Option Key) (need : ℤ) → is_rising zs ≡ true → IsLength f.program k → IsNeeded k bound need →
+  pub beaten_by_need : (bound : Option Key) (need : ℤ) → is_rising zs ≡ true → IsLength f.program k →
+      IsNeeded k bound need →
       NoneGains f x k need → IsBeaten f x k bound
   beaten_by_need bound need rising fits needed none =
-      by (best_or_none f.program f.phase zs k (link_rests f.program x) rising f.program.bricks x (zeros f.program.brick.cols))
+      by (best_or_none f.program f.phase zs k (link_rests f.program x) rising f.program.bricks x
+      (zeros f.program.brick.cols))
     where
       by : BestOrNone f.program f.phase zs k (link_rests f.program x) f.program.bricks x (zeros f.program.brick.cols) →
           IsBeaten f x k bound

@@ -64,6 +64,16 @@ module _ (p : Program) (phase : Phase) (zs : List Vector) (x : Bricks) (k : ℕ)
     few = omega arith;
   }
 
+  -- what lies behind a layer lies behind those before it
+  pub tried_less : (i moves : ℕ) → TriedBehind i moves → (h : ℕ) → h ≤ i → TriedBehind h moves
+  tried_less i moves tried h low = record {
+    nodes = tried.nodes;
+    live = tried.live;
+    behind = λ m d under. omega (arith, low, tried.behind m d under);
+    apart = tried.apart;
+    few = tried.few;
+  }
+
   pub tried_all : (i moves : ℕ) → TriedBehind i moves → TriesLiveNodes p phase zs x k bound moves
   tried_all i moves tried =
       list_with (All (λ n. IsLive p phase zs x k bound n.0 n.1)) _ (λ nodes. moves ≤ length zs * length nodes)

@@ -22,5 +22,6 @@ end_at Counted before after = Some (pos after -ℤ pos before)
 -- the last layer
 pub record IsLastLayer (f : FoldValue) (k : ℕ) (rests : Vector) (layer : Layer) : Type 0 where
   pub size : length layer ≡ length (vectors f.sums)
-  pub cells : (i : ℕ) (w : Vector) (cell : Option ℤ) → slice_get (vectors f.sums) i ≡ Some w → slice_get layer i ≡ Some cell → cell ≡ ending f k rests w
+  pub cells : (i : ℕ) (w : Vector) (cell : Option ℤ) → slice_get (vectors f.sums) i ≡ Some w →
+      slice_get layer i ≡ Some cell → cell ≡ ending f k rests w
   pub small : AreAtMost (2 ^ 118) layer

@@ -1,5 +1,6 @@
 pub mod Changes
 pub mod Menus
+pub mod Blocks
 pub mod Ends
 pub mod Tables
 pub mod Answers

@@ -1,11 +1,13 @@
 -- What a step has to gain, and by how much the moves of all bricks can lower the cost at most.
-use Rattle.std.specs.Prelude.{◌≡◌, ℕ, ◌^◌, ◌<◌, ◌⊎◌, ℤ, pos, ◌-ℤ◌, ◌≤ℤ◌, ◌<ℤ◌, false, List, length, Option, Some, None, IsTrue, slice_get}
+use Rattle.std.specs.Prelude.{◌≡◌, ℕ, ◌^◌, ◌+◌, ◌-◌, ◌*◌, ◌<◌, ◌≤◌, ◌⊎◌, ℤ, pos, ◌-ℤ◌, ◌≤ℤ◌, ◌<ℤ◌, false, List, length}
+use Rattle.std.specs.Prelude.{Option, Some, None, IsTrue, slice_get, unsigned_abs, sum_by, drop}
 use Rattle.lattice_theory.specs.Vectors.{Vector, zeros}
 use Rattle.lattice_theory.specs.SignedSums.{vectors}
 use Rattle.fold_theory.specs.Programs.{Bricks, link_rests}
+use Rattle.fold_program.specs.Refusals.{brick_magnitude, total_magnitude}
 use Rattle.run_theory.specs.declared.Key.{Key}
 use Rattle.run_theory.specs.Keys.{beaten, IsNoWorse}
-use Rattle.run_theory.specs.Live.{IsLive}
+use Rattle.run_theory.specs.Live.{IsLive, least_before}
 use Rattle.run_theory.specs.Outcomes.{Step}
 use Rattle.run_theory.specs.Walks.{WalkCosts}
 use Rattle.run_theory.specs.Folds.{FoldValue}
@@ -25,7 +27,8 @@ pub record IsNeeded (k : ℕ) (bound : Option Key) (need : ℤ) : Type 0 where
 abbrev pub NoneGains : FoldValue → Bricks → ℕ → ℤ → Type 0
 NoneGains f x k need =
     (h : Bricks) (c : ℤ) →
-    WalkCosts f.program f.phase (vectors f.sums) k (link_rests f.program x) f.program.bricks x (zeros f.program.brick.cols) h c →
+    WalkCosts f.program f.phase (vectors f.sums) k (link_rests f.program x) f.program.bricks x
+    (zeros f.program.brick.cols) h c →
     (pos 0 -ℤ need) <ℤ c
 
 -- the best step of that length, where it lowers the cost by so much
@@ -68,4 +71,18 @@ AreLayersUnder f x k n bound layers =
 
 -- no node of the last layer is live: moves of all bricks, each taken by itself, cannot gain what the bound asks for
 abbrev pub NoneLives : FoldValue → Bricks → ℕ → Option Key → Type 0
-NoneLives f x k bound = (w : Vector) → IsLive f.program f.phase (vectors f.sums) x k bound (length f.program.bricks) w → ⊥
+NoneLives f x k bound = (w : Vector) → IsLive f.program f.phase (vectors f.sums) x k bound (length f.program.bricks)
+    w → ⊥
+
+-- the least that moves of the first i bricks change the cost by, each taken by itself, and how large it is at most
+pub record IsFloor (f : FoldValue) (x : Bricks) (k i : ℕ) (floor : ℤ) : Type 0 where
+  pub is : floor ≡ least_before f.program f.phase (vectors f.sums) x k i
+  pub small : unsigned_abs floor ≤ 2 * total_magnitude f.program + 2 * sum_by brick_magnitude (drop i f.program.bricks)
+
+-- the layers after m bricks, of which the last one is that layer, and the floor of the bricks that are left, right for
+-- whatever the bound asks for from now on
+pub record IsSwept (f : FoldValue) (x : Bricks) (k m : ℕ) (bound : Option Key) (all : List Layer) (layer : Layer)
+    (lowest : ℤ) : Type 0 where
+  pub layers : AreLayersUnder f x k (m + 1) bound all
+  pub last : slice_get all m ≡ Some layer
+  pub floor : IsFloor f x k (length f.program.bricks - m) lowest

@@ -26,10 +26,11 @@ use step_lengths::count;
 /// The best step of `2^k` times a move, where it gains anything and the bound does not beat it.
 ///
 /// The fold's sums are the brick sums of its program and phase; the point is within the bounds and meets its brick
-/// rows, in phase `Closed` the linking rows too; and `2^k` is a step length. The bound is asked before the layer of
-/// each brick is made, and once more before the step is read off. `moves` rises by one for each sum to which a move
-/// leads that could lower its cost. Such moves lead to live nodes alone, each to at most as many as there are sums: to
-/// those from which a step can still gain what the bound asks for, where the bricks before are each taken by itself.
+/// rows, in phase `Closed` the linking rows too; and `2^k` is a step length. The bound is asked before each brick, but
+/// once for sixteen bricks whose moves change no layer, and once more before the step is read off. `moves` rises by one
+/// for each sum to which a move leads that could lower its cost. Such moves lead to live nodes alone, each to at most
+/// as many as there are sums: to those from which a step can still gain what the bound asks for, where the bricks
+/// before are each taken by itself.
 ///
 /// `AllocError` comes only where memory runs out.
 pub fn best_step<B: Bound>(
@@ -49,7 +50,8 @@ pub fn best_step<B: Bound>(
         (B.last bound.old) (moves.new - moves.old) }
     ensures untried { NoneLives fold.now point.now k (B.last bound.old) → moves.new ≡ moves.old }
     ensures rising { moves.old ≤ moves.new }
-    ensures counted { moves.new ≤ moves.old + length fold.now.program.bricks * (length fold.now.sums * length fold.now.sums) }
+    ensures counted { moves.new ≤
+        moves.old + length fold.now.program.bricks * (length fold.now.sums * length fold.now.sums) }
 {
     let lengths = count(fold.program().widest());
     prove!(k < lengths);
@@ -81,7 +83,8 @@ pub fn best_step_with<B: Bound>(
         (B.last bound.old) (moves.new - moves.old) }
     ensures untried { NoneLives fold.now point.now k (B.last bound.old) → moves.new ≡ moves.old }
     ensures rising { moves.old ≤ moves.new }
-    ensures counted { moves.new ≤ moves.old + length fold.now.program.bricks * (length fold.now.sums * length fold.now.sums) }
+    ensures counted { moves.new ≤
+        moves.old + length fold.now.program.bricks * (length fold.now.sums * length fold.now.sums) }
 {
     let lengths = count(fold.program().widest());
     prove!(k < lengths);

@@ -44,7 +44,8 @@ fn missed_after(program: &Program, rests: &[i128], sum: &[i64], k: u32) -> u128
     requires width { length sum.now ≡ program.now.link.cols }
     requires image { IsSmallImage program.now sum.now }
     requires short { k < 64 }
-    ensures missed { result ≡ link_miss program.now (sub rests.now (scale (pos (2 ^ k)) (product program.now.link sum.now))) }
+    ensures missed { result ≡ link_miss program.now
+        (sub rests.now (scale (pos (2 ^ k)) (product program.now.link sum.now))) }
     ensures small { result ≤ 2 ^ 118 }
 {
     prove!(program.t() <= 32 && program.r() <= 16);
@@ -79,8 +80,8 @@ fn further(length: u64, image: i128) -> i128
     i128::from(length) * image
 }
 
-/// What walks cost that end where the linking rows miss so much `after`, of which they missed so much `before`. In phase
-/// `Closed` walks end only where nothing is missed.
+/// What walks cost that end where the linking rows miss so much `after`, of which they missed so much `before`. In
+/// phase `Closed` walks end only where nothing is missed.
 fn end(phase: Phase, before: u128, after: u128) -> Option<i128>
     requires before { before ≤ 2 ^ 118 }
     requires after { after ≤ 2 ^ 118 }

@@ -19,7 +19,8 @@ pub(crate) fn floor(fold: &Fold, menus: &Menus, _point: &Point, _k: u32) -> i128
     requires menus { AreMenus fold.now _point.now _k menus.now }
     requires zero { Contains (vectors fold.now.sums) (zeros fold.now.program.brick.cols) }
     requires within { AreWithin fold.now.program.bricks _point.now }
-    ensures floor { result ≡ least_before fold.now.program fold.now.phase (vectors fold.now.sums) _point.now _k (length fold.now.program.bricks) }
+    ensures floor { result ≡ least_before fold.now.program fold.now.phase (vectors fold.now.sums) _point.now _k
+        (length fold.now.program.bricks) }
     ensures small { unsigned_abs result ≤ 2 * total_magnitude fold.now.program }
 {
     let mut floor = 0i128;
@@ -29,8 +30,26 @@ pub(crate) fn floor(fold: &Fold, menus: &Menus, _point: &Point, _k: u32) -> i128
     floor
 }
 
-/// Whether a cost is there that is at most the limit.
-pub(crate) fn any_within(costs: &[Option<i128>], limit: i128) -> bool
+/// Whether a cost is there that is at most the limit; the one at the place `likely` is looked at first.
+pub(crate) fn any_within(costs: &[Option<i128>], limit: i128, likely: u32) -> bool
+    ensures within { OnTrue result (IsWithin limit costs.now) }
+    ensures above { OnFalse result (AreAbove limit costs.now) }
+{
+    is_within(costs, limit, likely) || some_within(costs, limit)
+}
+
+/// Whether the cost at this place is there and at most the limit.
+fn is_within(costs: &[Option<i128>], limit: i128, place: u32) -> bool
+    ensures { OnTrue result (IsWithin limit costs.now) }
+{
+    match costs.get(place as usize) {
+        Some(Some(cost)) => *cost <= limit,
+        _ => false,
+    }
+}
+
+/// Whether a cost at some place is there and at most the limit.
+fn some_within(costs: &[Option<i128>], limit: i128) -> bool
     ensures within { OnTrue result (IsWithin limit costs.now) }
     ensures above { OnFalse result (AreAbove limit costs.now) }
 {

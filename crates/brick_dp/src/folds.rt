@@ -34,7 +34,13 @@ impl<'a> Fold<'a> {
     pub fn new(program: &'a Program, sums: &'a Sums, phase: Phase) -> Option<Fold<'a>>
         requires widths { All (λ w. length w ≡ program.now.brick.cols) (vectors sums.now) }
         requires images { All (IsSmallImage program.now) (vectors sums.now) }
-        ensures { MatchOption result (¬ FitsTable program.now sums.now) (λ f. FitsTable program.now sums.now × (f ≡ record { program = program.now; phase = phase; sums = sums.now })) }
+        ensures { MatchOption result (¬ FitsTable program.now sums.now)
+            (λ f. FitsTable program.now sums.now × (f ≡ record {
+              program = program.now;
+              phase = phase;
+              sums =
+                  sums.now;
+            })) }
     {
         let layers = u64::from(program.n()) + 1;
         if layers * u64::from(sums.len()) > 1 << 20 {

@@ -9,6 +9,7 @@
 
 mod answers;
 mod best;
+mod blocks;
 mod bounds;
 mod changes;
 mod ends;
@@ -27,7 +28,7 @@ pub use fold_program::{Phase, Point, Program};
 pub use folds::Fold;
 pub use layer_sieve::{Moves, PricedMove, Targets};
 pub use least_costs::potentials;
-pub use menus::Menus;
+pub use menus::{Menus, changed_bricks};
 pub use step_lengths::Key;
 pub use tables::Potentials;
 

@@ -16,11 +16,11 @@ mod tops;
 
 pub use choices::{Choice, first_choice};
 pub use layers::Layers;
-pub use lowering::lower_by;
+pub use lowering::{lower_by, lower_cell};
 pub use moves::Moves;
 pub use sieve_laws::PricedMove;
 pub use targets::Targets;
-pub use tops::widen;
+pub use tops::{all_idle, widen};
 
 #[cfg(test)]
 mod tests;

@@ -81,8 +81,8 @@ fn lower(
     is_lower
 }
 
-/// Lowers a cell to this cost, and says whether it was more before.
-fn lower_cell(cell: &mut Option<i128>, cost: i128) -> bool
+/// Lowers a cell to this cost, and says whether it was more before, or none.
+pub fn lower_cell(cell: &mut Option<i128>, cost: i128) -> bool
     ensures lesser { cell.new ≡ lesser cell.old (Some cost) }
     ensures same { OnFalse result (cell.new ≡ cell.old) }
 {

@@ -1,11 +1,11 @@
 //! Moves that can lower no cell of a layer.
 
-ghost use Rattle.std.specs.Prelude.{◌≡◌, ◌<◌, ◌≤◌, ◌^◌, ℤ, length, IsTrue, IfSome};
+ghost use Rattle.std.specs.Prelude.{◌≡◌, ◌<◌, ◌≤◌, ◌^◌, ℤ, length, Some, IsTrue, IfSome, slice_get};
 ghost use Rattle.std.specs.Bool.{OnTrue};
 ghost use Rattle.lattice_theory.specs.Vectors.{is_rising};
 ghost use Rattle.lattice_theory.specs.SignedSums.{vectors};
-ghost use Rattle.sieve_laws.specs.Sieve.{IsTop, IsIdle, AreTops, live, under};
-ghost use Rattle.layer_sieve.specs.Reaching.{AreAtMost, IsFair};
+ghost use Rattle.sieve_laws.specs.Sieve.{IsTop, IsIdle, AreIdleAt, AreTops, live, under};
+ghost use Rattle.layer_sieve.specs.Reaching.{AreAtMost};
 ghost use Rattle.layer_sieve.specs.Falls.{AreKept, FallsLeast, FallsMost, IsLow, IsWider, IsSpread};
 
 use crate::reaching::live_from;
@@ -22,7 +22,7 @@ pub(crate) fn is_idle(
     tops: &mut [Option<i128>],
 ) -> bool
     requires rising { IsTrue (is_rising (vectors targets.now)) }
-    requires fair { IsFair (length targets.now) m }
+    requires listed { m.place < length targets.now }
     requires size { length next.now ≡ length targets.now }
     requires small { AreAtMost (2 ^ 122) next.now }
     requires tops { AreTops (vectors targets.now) (live limit next.now) next.now tops.old }
@@ -34,6 +34,39 @@ pub(crate) fn is_idle(
         tops[at] = top(targets, next, limit, m.place);
     }
     is_low(tops[at], m.change)
+}
+
+/// Whether no move lowers a cell by way of a live one, where `changes` has for each move, by its place, what it changes
+/// the cost by, and none where there is no such move. `tops` has bounds for the moves, as above.
+pub fn all_idle(
+    targets: &Targets,
+    changes: &[Option<i128>],
+    next: &[Option<i128>],
+    limit: i128,
+    tops: &mut [Option<i128>],
+) -> bool
+    requires rising { IsTrue (is_rising (vectors targets.now)) }
+    requires size { length next.now ≡ length targets.now }
+    requires small { AreAtMost (2 ^ 122) next.now }
+    requires tops { AreTops (vectors targets.now) (live limit next.now) next.now tops.old }
+    ensures idle { OnTrue result (AreIdleAt (vectors targets.now) (live limit next.now) next.now changes.now) }
+    ensures tops { AreTops (vectors targets.now) (live limit next.now) next.now tops.new }
+{
+    for place in 0..targets.len() {
+        if let Some(change) = change_at(changes, place) {
+            if !is_idle(targets, next, limit, PricedMove { place, change }, tops) {
+                return false;
+            }
+        }
+    }
+    true
+}
+
+/// What the move of this place changes the cost by, where there is one.
+fn change_at(changes: &[Option<i128>], place: u32) -> Option<i128>
+    ensures { (change : ℤ) → slice_get changes.now place ≡ Some (Some change) → result ≡ Some change }
+{
+    *changes.get(place as usize)?
 }
 
 /// Whether a bound is known that is no more than the change.

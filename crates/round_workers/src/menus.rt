@@ -8,7 +8,7 @@ ghost use Rattle.brick_dp.specs.Answers.{IsStepAnswer};
 ghost use Rattle.brick_dp.specs.Menus.{AreMenus};
 ghost use Rattle.round_workers.specs.Menus.{AreRunMenus};
 
-use brick_dp::{Bound, Fold, Menus, Moves, StepAnswer, Targets, best_step_with};
+use brick_dp::{Bound, Fold, Menus, Moves, StepAnswer, Targets, best_step_with, changed_bricks};
 use fold_program::Point;
 use std::alloc::{AllocError, Global};
 use step_lengths::count;
@@ -51,8 +51,9 @@ impl<'a> RunMenus<'a> {
         requires after { AreWithin fold.now.program.bricks after.now }
         ensures { OnOk result (AreRunMenus fold.now after.now self.new) }
     {
+        let changed = changed_bricks(alloc, fold, before, after)?;
         for at in 0..self.menus.len() {
-            self.menus[at].follow(alloc, fold, before, after, at as u32)?;
+            self.menus[at].follow(alloc, fold, before, after, &changed, at as u32)?;
         }
         Ok(())
     }

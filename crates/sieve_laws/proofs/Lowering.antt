@@ -22,7 +22,7 @@ lesser_none : (kept : Option ℤ) → lesser kept None ≡ kept
 lesser_none None = refl
 lesser_none (Some a) = refl
 
-lesser_kept : (c : ℤ) (offer : Option ℤ) → (a : ℤ) × (lesser (Some c) offer ≡ Some a) × (a ≤ℤ c)
+pub lesser_kept : (c : ℤ) (offer : Option ℤ) → (a : ℤ) × (lesser (Some c) offer ≡ Some a) × (a ≤ℤ c)
 lesser_kept c None = (c, refl, omega (arith, ints))
 lesser_kept c (Some b) = by (int_lt b c) refl
   where
@@ -30,7 +30,7 @@ lesser_kept c (Some b) = by (int_lt b c) refl
     by true e = (b, refl, grind (arith, ints))
     by false e = (c, refl, omega (arith, ints))
 
-lesser_offer : (kept : Option ℤ) (c : ℤ) → (a : ℤ) × (lesser kept (Some c) ≡ Some a) × (a ≤ℤ c)
+pub lesser_offer : (kept : Option ℤ) (c : ℤ) → (a : ℤ) × (lesser kept (Some c) ≡ Some a) × (a ≤ℤ c)
 lesser_offer None c = (c, refl, omega (arith, ints))
 lesser_offer (Some b) c = by (int_lt c b) refl
   where

@@ -83,6 +83,16 @@ IsAtMost layer w c = (a : ℤ) × (slice_get layer w ≡ Some (Some a)) × (a �
 abbrev pub IsIdle : List Vector → Layer → Layer → PricedMove → Type 0
 IsIdle zs from next m = (w : ℕ) (a : ℤ) → Reaches zs from m.place w a → IsAtMost next w (m.change +ℤ a)
 
+-- the same for each move of a menu
+abbrev pub AreIdle : List Vector → Layer → Layer → Menu → Type 0
+AreIdle zs from next menu = (i : ℕ) (m : PricedMove) → slice_get menu i ≡ Some m → IsIdle zs from next m
+
+-- the same for a move of each place, where it changes the cost by what stands there
+abbrev pub AreIdleAt : List Vector → Layer → Layer → List (Option ℤ) → Type 0
+AreIdleAt zs from next changes =
+    (h : ℕ) (change : ℤ) → slice_get changes h ≡ Some (Some change) →
+    IsIdle zs from next (record { place = h; change = change })
+
 -- no sum costs more than this above the source that the move at place h reaches from there
 abbrev pub IsTop : List Vector → Layer → Layer → ℕ → ℤ → Type 0
 IsTop zs from next h top = (w : ℕ) (a : ℤ) → Reaches zs from h w a → IsAtMost next w (top +ℤ a)

@@ -15,11 +15,15 @@ loop-i-preserved c =
     let f = c.args.fold.now in
     record {
       nodes =
-          nodes_more (λ w cell. cell ≡ ending f c.args.k (link_rests f.program c.args.point.now) w) (vectors f.sums) c.loop-i.layer.items _ c.loop-i.i
+          nodes_more (λ w cell. cell ≡ ending f c.args.k (link_rests f.program c.args.point.now) w) (vectors f.sums)
+          c.loop-i.layer.items _ c.loop-i.i
           c.sum.result.now c.end.result c.sum.ensures.vector
-          (ending_is f c.args.k c.args.point.now c.sum.result.now c.deref.result.now c.link_residual-before.result c.missed_after-after.result c.phase.result
-          c.program-program.result.now c.end.result c.program-program.ensures (c.deref.ensures.value ∙ c.in_ok-rests.ensures.rests) c.phase.ensures
+          (ending_is f c.args.k c.args.point.now c.sum.result.now c.deref.result.now c.link_residual-before.result
+          c.missed_after-after.result c.phase.result
+          c.program-program.result.now c.end.result c.program-program.ensures (c.deref.ensures.value
+          ∙ c.in_ok-rests.ensures.rests) c.phase.ensures
           c.link_residual-before.ensures.residual c.missed_after-after.ensures.missed c.end.ensures.cost)
           c.in_ok-push.ensures.items c.loop-i.invariant.nodes;
-      small = AreAtMost-push (2 ^ 118) c.loop-i.layer.items _ c.end.result c.in_ok-push.ensures.items c.end.ensures.small c.loop-i.invariant.small;
+      small = AreAtMost-push (2 ^ 118) c.loop-i.layer.items _ c.end.result c.in_ok-push.ensures.items
+          c.end.ensures.small c.loop-i.invariant.small;
     }

@@ -8,6 +8,7 @@ use Rattle.brick_dp.proofs.ends.last_layer.Given as goal
 
 abbrev pub invariant-loop-i : goal.invariant-loop-i
 invariant-loop-i l = record {
-  nodes : NodesUpTo (λ w cell. cell ≡ ending l.fold l.k (link_rests l.fold.program l.point) w) (vectors l.fold.sums) l.layer.items l.i;
+  nodes : NodesUpTo (λ w cell. cell ≡ ending l.fold l.k (link_rests l.fold.program l.point) w) (vectors l.fold.sums)
+      l.layer.items l.i;
   small : AreAtMost (2 ^ 118) l.layer.items;
 }

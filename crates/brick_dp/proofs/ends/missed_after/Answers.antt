@@ -22,12 +22,14 @@ loop-at-preserved c =
     ∙ ap (λ (m : Matrix). slice_get m.rows (c.loop-at.at + 1 - 1)) (sym c.link.ensures.link) ∙ c.row.ensures.entries in
     record {
       so_far =
-          missed-more c.args.program.now c.args.k c.args.rests.now c.args.sum.now c.row.result.now c.loop-at.at c.loop-at.missed _ c.missed.result c.left.result
+          missed-more c.args.program.now c.args.k c.args.rests.now c.args.sum.now c.row.result.now c.loop-at.at
+          c.loop-at.missed _ c.missed.result c.left.result
           (omega arith) c.requires.rests rows value missed.missed refl c.loop-at.invariant.so_far;
       small = omega (arith, missed.small, c.left.ensures.small);
     }
 
 pub returns-clause-missed : goal.returns-clause-missed
 returns-clause-missed c =
-    missed-all c.args.program.now c.args.k c.args.rests.now c.args.sum.now c.loop-at.at c.loop-at.missed c.requires.rests
+    missed-all c.args.program.now c.args.k c.args.rests.now c.args.sum.now c.loop-at.at c.loop-at.missed
+    c.requires.rests
     (omega (arith, c.loop-at-test.false)) c.loop-at.invariant.so_far

@@ -17,14 +17,20 @@ pub layers-requires-clause-zero : goal.layers-requires-clause-zero
 layers-requires-clause-zero c =
     let f = c.args.fold.now in
     let zero = zero_at f.sums f.program.brick.cols c.zero.result c.sums.ensures.fold.widths
-    (subst (λ (s : List Sum). slice_get (vectors s) c.zero.result ≡ Some (zeros (width s))) c.sums.ensures.sums c.zero.ensures) in
-    (c.zero.result, slice_get_within (vectors f.sums) c.zero.result _ zero, get_or_from_slice_get (vectors f.sums) c.zero.result _ _ zero)
+    (subst (λ (s : List Sum). slice_get (vectors s) c.zero.result ≡ Some (zeros (width s))) c.sums.ensures.sums
+    c.zero.ensures) in (
+      c.zero.result,
+      slice_get_within (vectors f.sums) c.zero.result _ zero,
+      get_or_from_slice_get (vectors f.sums)
+          c.zero.result _ _ zero,
+    )
 
 pub returns-clause-potentials : goal.returns-clause-potentials
 returns-clause-potentials c =
     let f = c.args.fold.now in
     subst (ArePotentials f.program f.phase (vectors f.sums) c.args.point.now) (sym c.new-3.ensures) (
-    are_potentials f c.args.point.now c.in_ok-layers.layers c.len-2.result c.in_ok-layers.ensures.layers (c.len-2.ensures ∙ ap length c.sums-4.ensures.sums)
+    are_potentials f c.args.point.now c.in_ok-layers.layers c.len-2.result c.in_ok-layers.ensures.layers
+    (c.len-2.ensures ∙ ap length c.sums-4.ensures.sums)
     )
 
 pub returns-clause-small : goal.returns-clause-small
@@ -45,5 +51,6 @@ new-requires-3-clause-width c =
 pub new-requires-3-clause-height : goal.new-requires-3-clause-height
 new-requires-3-clause-height c =
     let f = c.args.fold.now in
-    let bricks : c.n-bricks.result ≡ length f.program.bricks = c.n-bricks.ensures.bricks ∙ ap (λ (p : Program). length p.bricks) c.program.ensures in
+    let bricks : c.n-bricks.result ≡ length f.program.bricks =
+    c.n-bricks.ensures.bricks ∙ ap (λ (p : Program). length p.bricks) c.program.ensures in
     (c.in_ok-layers.ensures.layers (pos 0)).size ∙ ap (λ n. n + 1) (sym bricks)

@@ -1,4 +1,5 @@
-use Rattle.std.proofs.Common.{◌≡◌, ◌+◌, ◌<ℤ◌, ◌≤ℤ◌, pos, arith, rules, sym, subst, get_or, slice_get, Some, FitsSigned, to_z}
+use Rattle.std.proofs.Common.{◌≡◌, ◌+◌, ◌<ℤ◌, ◌≤ℤ◌, pos, arith, rules, sym, subst, get_or, slice_get, Some, FitsSigned}
+use Rattle.std.proofs.Common.{to_z}
 use Rattle.std.specs.Int.{w128}
 use Rattle.std.proofs.lemmas.Int.{ints, to_z-of_z}
 use Rattle.std.proofs.lemmas.Option.{slice_get-get_or}
@@ -11,7 +12,8 @@ pub loop-m-preserved : goal.loop-m-preserved
 loop-m-preserved c =
     let m : PricedMove = get_or c.args.menu.now c.loop-m.m-index (record { place = 0; change = pos 0 }) in
     let change : FitsSigned w128 m.change = search rules in
-    let here : slice_get c.args.menu.now c.loop-m.m-index ≡ Some m = slice_get-get_or c.args.menu.now c.loop-m.m-index _ c.loop-m-test.true in
+    let here : slice_get c.args.menu.now c.loop-m.m-index ≡ Some m =
+    slice_get-get_or c.args.menu.now c.loop-m.m-index _ c.loop-m-test.true in
     elim c.if-m-least.branch [
       | then-m-least w ↦
           let is = simp to_z-of_z at w.least-is in
@@ -27,4 +29,5 @@ loop-m-preserved c =
     ]
 
 pub returns : goal.returns
-returns c = least_all c.args.menu.now (to_z w128 c.loop-m.least-bits) c.loop-m.m-index c.loop-m-test.false c.loop-m.invariant
+returns c = least_all c.args.menu.now (to_z w128 c.loop-m.least-bits) c.loop-m.m-index c.loop-m-test.false
+    c.loop-m.invariant

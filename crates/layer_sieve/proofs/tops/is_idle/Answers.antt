@@ -21,7 +21,7 @@ returns-clause-tops c =
           c.args.next.now c.args.m.place) = simp to_z-of_z at w.top.ensures in
           tops_more (vectors c.args.targets.now) (live c.args.limit c.args.next.now) c.args.next.now c.args.tops.now
           c.if-not-is_low.tops c.args.m.place w.top.result
-          (omega (arith, c.requires.tops.size, size_vectors c.args.targets.now, c.requires.fair.low)) w.tops-is
+          (omega (arith, c.requires.tops.size, size_vectors c.args.targets.now, c.requires.listed)) w.tops-is
           (λ most e. if_some (IsTop (vectors c.args.targets.now) (live c.args.limit c.args.next.now) c.args.next.now
           c.args.m.place) w.top.result most e top) c.requires.tops
       | else-not-is_low w ↦
@@ -35,7 +35,7 @@ returns-clause-idle c =
     let are : AreTops (vectors c.args.targets.now) (live c.args.limit c.args.next.now) c.args.next.now
     c.if-not-is_low.tops = returns-clause-tops c in
     let low : c.args.m.place < length c.if-not-is_low.tops =
-    omega (arith, are.size, size_vectors c.args.targets.now, c.requires.fair.low) in
+    omega (arith, are.size, size_vectors c.args.targets.now, c.requires.listed) in
     let change : FitsSigned w128 c.args.m.change = search rules in
     let told = simp to_z-of_z at c.is_low-2.ensures in
     OnTrue_from _ _ (λ e.

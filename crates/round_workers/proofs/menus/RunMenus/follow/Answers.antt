@@ -1,6 +1,7 @@
-use Rattle.std.proofs.Common.{◌∙◌, ◌<◌, refl, ap, sym, arith, length, Some}
+use Rattle.std.proofs.Common.{◌∙◌, ◌<◌, refl, ap, sym, arith, length, subst, Some}
 use Rattle.std.proofs.lemmas.List.{length-set}
 use Rattle.std.proofs.lemmas.Option.{slice_get-get_or}
+use Rattle.brick_dp.specs.Menus.{AreChanged}
 use Rattle.round_workers.proofs.MenuLaws.{following_none, following_more, following_all}
 use Rattle.round_workers.proofs.menus.RunMenus.follow.Goals as goal
 
@@ -19,6 +20,10 @@ follow-requires-clause-menus c =
     let low : c.loop-at.at < length menus = omega (arith, c.loop-at-test.true, c.loop-at.invariant.size) in
     c.loop-at.invariant.menus.rest c.loop-at.at c.index_mut.result.now (omega arith)
     (slice_get-get_or menus c.loop-at.at c.index_mut.result.now low ∙ ap Some (sym c.index_mut.ensures.value))
+
+pub follow-requires-clause-changed : goal.follow-requires-clause-changed
+follow-requires-clause-changed c =
+    subst (AreChanged c.args.before.now c.args.after.now) (sym c.deref.ensures.value) c.in_ok-changed.ensures
 
 pub loop-at-preserved : goal.loop-at-preserved
 loop-at-preserved c =
