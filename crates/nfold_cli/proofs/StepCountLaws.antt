@@ -1,63 +1,25 @@
 -- The trace of an outcome tells how many steps each phase makes, and they are few.
 use Rattle.std.proofs.Common.{◌≡◌, ℕ, suc, unsigned_abs, List, [], ◌∷◌, ◌++◌, length}
 use Rattle.std.proofs.Common.{flat_map, Option, Some, None, IfSome, refl, ap, sym, ◌∙◌, subst}
-use Rattle.std.specs.List.{AllZip, AllByRecursion}
-use Rattle.lattice_theory.specs.Vectors.{Vector, sub}
-use Rattle.lattice_theory.specs.Matrices.{product}
 use Rattle.lattice_theory.specs.SignedSums.{Sum, vectors}
-use Rattle.lattice_laws.proofs.Conformal.{norm_none}
-use Rattle.lattice_laws.proofs.Products.{length-rows}
-use Rattle.lattice_laws.proofs.Sums.{same_vector}
 use Rattle.fold_theory.specs.declared.Phase.{Phase}
 use Rattle.fold_theory.specs.declared.Phase.TheVariants.{Closed, Counted}
 use Rattle.fold_theory.specs.declared.Verdict.{Verdict}
 use Rattle.fold_theory.specs.declared.Verdict.TheVariants.{Optimal, InfeasibleBrick, InfeasibleLink}
-use Rattle.fold_theory.specs.Programs.{Program, IsProgram, Brick, IsBrick, Bricks, AreWithin}
-use Rattle.fold_theory.specs.Programs.{brick_residual, link_rests, link_miss}
+use Rattle.fold_theory.specs.Programs.{Program, IsProgram, Bricks, link_rests, link_miss}
 use Rattle.run_theory.specs.Links.{Bases, AreBases}
 use Rattle.run_theory.specs.BrickSums.{AreBrickSums}
-use Rattle.run_theory.specs.BrickRuns.{BrickMove}
 use Rattle.run_theory.specs.Steps.{Move, moved}
 use Rattle.run_theory.specs.Starts.{IsStart}
 use Rattle.run_theory.specs.Outcomes.{Outcome, Step, RunRecord, IsRecorded, steps_from}
-use Rattle.run_theory.specs.Outcomes.{AllSettle, CountedPart, ClosedPart, IsOutcome}
-use Rattle.piece_laws.proofs.Starts.{bricks_of}
-use Rattle.run_laws.proofs.BrickRuns.{brick_run_end}
+use Rattle.run_theory.specs.Outcomes.{CountedPart, ClosedPart, IsOutcome}
 use Rattle.run_laws.proofs.PhaseRuns.{run_best}
+use Rattle.run_laws.proofs.TrueOutcomes.{settled_start}
 use Rattle.count_laws.proofs.FewSteps.{few_steps}
 use Rattle.nfold_cli.specs.RunTexts.{step_text, made_text}
 use Rattle.nfold_cli.specs.StepCounts.{gained, IsTold, AreTold}
 
 module _ (p : Program) (program : IsProgram p) where
-  -- ---- where the phases start
-
-  -- a vector that misses nothing meets the rows
-  met : (b : Brick) (v : Vector) → length b.right ≡ length p.brick.rows → brick_residual p b v ≡ 0 →
-      product p.brick v ≡ b.right
-  met b v right none =
-      same_vector (product p.brick v) b.right (length-rows p.brick.rows v ∙ sym right)
-      (norm_none (sub b.right (product p.brick v)) none)
-
-  -- where bricks settle, they are within the bounds and meet their rows
-  settled : (basis : List Vector) (bs : List Brick) (traces : List (List BrickMove)) (x : Bricks) →
-      AllByRecursion (IsBrick p.brick.cols (length p.brick.rows)) bs → AllSettle p basis bs traces x →
-      AreWithin bs x × AllZip (λ b v. product p.brick v ≡ b.right) bs x
-  settled basis [] [] [] is all = (tt, tt)
-  settled basis [] [] (v ∷ x) is all = absurd all
-  settled basis [] (ms ∷ traces) x is all = absurd all
-  settled basis (b ∷ bs) [] x is all = absurd all
-  settled basis (b ∷ bs) (ms ∷ traces) [] is all = absurd all
-  settled basis (b ∷ bs) (ms ∷ traces) (v ∷ x) is all =
-      let end = brick_run_end p basis b ms v is.0.uncrossed all.0 in
-      let rest = settled basis bs traces x is.1 all.2 in
-      ((end.within, rest.0), (met b v is.0.right_size all.1, rest.1))
-
-  settled_start : (basis : List Vector) (traces : List (List BrickMove)) (x : Bricks) →
-      AllSettle p basis p.bricks traces x → IsStart p Counted x
-  settled_start basis traces x all =
-      let both = settled basis p.bricks traces x (bricks_of p program) all in
-      record { within = both.0; brick_rows = both.1; end = tt }
-
   module _ (b : Bases) (bases : AreBases p b) where
     -- phase Counted ends where it could start
     counted_start : (x y : Bricks) (made : Option RunRecord) → IsStart p Counted x → CountedPart p b x made y →
@@ -122,11 +84,11 @@ module _ (p : Program) (program : IsProgram p) where
       }
       by (InfeasibleLink residual) (b, x, bases, settles, part, left, above, closed) = record {
         counted =
-            counted_told b bases x o.point o.counted (settled_start b.brick o.traces x settles) part;
+            counted_told b bases x o.point o.counted (settled_start p b.brick o.traces x program settles) part;
         closed = none_told Closed o.closed closed;
       }
       by (Optimal cost) (b, x, y, bases, settles, part, none, last, costs) =
-          let start = settled_start b.brick o.traces x settles in
+          let start = settled_start p b.brick o.traces x program settles in
           let end = counted_start b bases x y o.counted start part in
           record {
             counted = counted_told b bases x y o.counted start part;

@@ -1,7 +1,7 @@
 -- The workers after their work, of whom the last is the opening one.
 use Rattle.std.proofs.Common.{◌≡◌, ◌≢◌, ℕ, zero, suc, ◌+◌, ◌<◌, List, [], ◌∷◌, ◌++◌, length, map, slice_index_or}
 use Rattle.std.proofs.Common.{Ok, Result, IfOk, IfSome, IfNone, Option, Some, None, refl, ap, sym, ◌∙◌, subst, arith}
-use Rattle.std.proofs.Common.{inl}
+use Rattle.std.proofs.Common.{inl, false, true≢false}
 use Rattle.std.specs.List.{All, Contains}
 use Rattle.std.proofs.lemmas.List.{length-map, length-append}
 use Rattle.std.proofs.lemmas.List.Elements.{All-nil, All-cons, All-head, All-tail, All-append, All-push, All-pop}
@@ -21,7 +21,7 @@ use Rattle.board_laws.specs.Views.{owned, HasFate, opening_view, splitting_view,
 use Rattle.board_laws.specs.Closing.{IsSettled, MayClose}
 use Rattle.incumbent.specs.Seats.{Held}
 use Rattle.round_workers.specs.Tasks.{HasGains}
-use Rattle.round_workers.specs.Workers.{WorkerValue, HasSteps, Keeps, IsReady, IsDone, IsSplitOff, IsOpening}
+use Rattle.round_workers.specs.Workers.{WorkerValue, HasSteps, Keeps, KnowsBest, IsReady, IsDone, IsSplitOff, IsOpening}
 use Rattle.round_workers.specs.Workers.{IsSplitting, IsTeam, IsTaking}
 use Rattle.round_workers.proofs.Steps.{HasSteps-append_left, HasSteps-append_right}
 
@@ -187,13 +187,18 @@ nothing_kept f x w none no_steps = record {
   found = subst (All (λ s. IsFound f x s.k s)) (sym no_steps) (All-nil (λ (s : Step). IsFound f x s.k s));
 }
 
+-- a worker that does not know the point as a best one claims nothing of it
+nothing_known : (f : FoldValue) (x : Bricks) (w : WorkerValue) → w.at_best ≡ false → KnowsBest f x w
+nothing_known f x w unknown = λ known. absurd (true≢false (sym known ∙ unknown))
+
 module _ (f : FoldValue) (x : Bricks) (table : TableId) (w : WorkerValue) (of : w.held.table ≡ table)
-    (no_steps : w.steps ≡ []) where
+    (no_steps : w.steps ≡ []) (unknown : w.at_best ≡ false) where
   fresh_ready : (v : View) → w.held.view ≡ fresh_view v → IsReady f x table w
   fresh_ready v is = record {
     of = of;
     working = ap (λ (u : View). u.stand) is;
     keeps = nothing_kept f x w (ap (λ (u : View). u.owned) is) no_steps;
+    best = nothing_known f x w unknown;
   }
 
   fresh_split : (v : View) → w.held.view ≡ fresh_view v → IsSplitOff f x table w
@@ -210,6 +215,7 @@ module _ (f : FoldValue) (x : Bricks) (table : TableId) (w : WorkerValue) (of : 
       of = of;
       working = ap (λ (u : View). u.stand) is;
       keeps = nothing_kept f x w (ap (λ (u : View). u.owned) is) no_steps;
+      best = nothing_known f x w unknown;
     }
 
     opening_first : IsOpening f x table others w
@@ -233,22 +239,22 @@ module _ (f : FoldValue) (x : Bricks) (table : TableId) where
   pub splitting_more : (o p : Held) (workers more : List WorkerValue) (w : WorkerValue)
       → IsSplitting f x table o workers → p.table ≡ o.table → p.view ≡ splitting_view o.view
       → w.held.table ≡ o.table → w.held.view ≡ fresh_view o.view
-      → w.steps ≡ [] → more ≡ (workers ++ w ∷ []) → IsSplitting f x table p more
-  splitting_more o p workers more w h of view fresh_of fresh no_steps is =
+      → w.steps ≡ [] → w.at_best ≡ false → more ≡ (workers ++ w ∷ []) → IsSplitting f x table p more
+  splitting_more o p workers more w h of view fresh_of fresh no_steps unknown is =
       let count : suc (length workers) ≡ length more =
       let n = ap length is ∙ length-append workers (w ∷ []) in omega (arith, n) in record {
         of = of ∙ h.of;
         view = view ∙ ap splitting_view h.view ∙ ap (λ n. record opening_view { made = n }) count;
         ready = subst (All (IsReady f x table)) (sym is)
             (All-push (IsReady f x table) workers w h.ready
-            (fresh_ready f x table w (fresh_of ∙ h.of) no_steps o.view fresh));
+            (fresh_ready f x table w (fresh_of ∙ h.of) no_steps unknown o.view fresh));
         split = subst (All (IsSplitOff f x table)) (sym is)
             (All-push (IsSplitOff f x table) workers w h.split
-            (fresh_split f x table w (fresh_of ∙ h.of) no_steps o.view fresh));
+            (fresh_split f x table w (fresh_of ∙ h.of) no_steps unknown o.view fresh));
       }
 
   module _ (o : Held) (workers all : List WorkerValue) (w : WorkerValue) (h : IsSplitting f x table o workers)
-      (held : w.held ≡ o) (no_steps : w.steps ≡ []) (is : all ≡ (workers ++ w ∷ [])) where
+      (held : w.held ≡ o) (no_steps : w.steps ≡ []) (unknown : w.at_best ≡ false) (is : all ≡ (workers ++ w ∷ [])) where
     view_is : w.held.view ≡ record opening_view { made = length workers }
     view_is = ap (λ (u : Held). u.view) held ∙ h.view
 
@@ -258,7 +264,7 @@ module _ (f : FoldValue) (x : Bricks) (table : TableId) where
     pub team_ready : All (IsReady f x table) all
     team_ready = subst (All (IsReady f x table)) (sym is)
         (All-push (IsReady f x table) workers w h.ready
-        (opening_ready f x table w table_is no_steps (length workers) view_is))
+        (opening_ready f x table w table_is no_steps unknown (length workers) view_is))
 
     pub team_whole : IsTeam f x table all
     team_whole = record {
@@ -266,7 +272,7 @@ module _ (f : FoldValue) (x : Bricks) (table : TableId) where
       opening = w;
       all = is;
       split = h.split;
-      first = opening_first f x table w table_is no_steps (length workers) view_is;
+      first = opening_first f x table w table_is no_steps unknown (length workers) view_is;
     }
 
 -- ---- the opening worker takes in the others

@@ -1,12 +1,13 @@
 -- The gains of a round, and what the answer for one length says of them.
 use Rattle.std.proofs.Common.{◌≡◌, ℕ, ◌<◌, ◌≤◌, ◌^◌, ◌↔◌, max, List, length, [], ◌∷◌, ◌++◌, Option, Some, None, IfSome}
-use Rattle.std.proofs.Common.{IfNone, IsTrue, option_map, refl, ap, subst, arith, inl, inr, ⊎_elim}
+use Rattle.std.proofs.Common.{IfNone, IsTrue, option_map, refl, ap, sym, ◌∙◌, subst, arith, inl, inr}
+use Rattle.std.proofs.Common.{⊎_elim}
 use Rattle.std.proofs.lemmas.Int.{ints}
 use Rattle.std.proofs.lemmas.Option.{slice_get-get_or}
 use Rattle.lattice_theory.specs.SignedSums.{vectors}
 use Rattle.fold_theory.specs.Programs.{Bricks}
 use Rattle.run_theory.specs.declared.Key.{Key}
-use Rattle.run_theory.specs.Keys.{beaten}
+use Rattle.run_theory.specs.Keys.{beaten, IsNoWorse}
 use Rattle.run_theory.specs.Steps.{IsGain}
 use Rattle.run_theory.specs.Outcomes.{Step}
 use Rattle.run_theory.specs.Folds.{FoldValue}
@@ -20,10 +21,11 @@ use Rattle.brick_dp.specs.Answers.{IsStepAnswer}
 use Rattle.brick_dp.specs.declared.answers.StepAnswer.{StepAnswer}
 use Rattle.brick_dp.specs.declared.answers.StepAnswer.TheVariants as answers
 use Rattle.board_laws.specs.declared.views.View.{View}
+use Rattle.board_laws.proofs.Orders.{beats_before, outranks-beaten}
 use Rattle.board_laws.specs.Indexes.{gain_of, length_key, IsOutdone}
 use Rattle.board_laws.specs.Views.{seeing_view, settling_view}
 use Rattle.round_workers.specs.Tasks.{HasGains}
-use Rattle.round_workers.specs.Workers.{WorkerValue, HasTried}
+use Rattle.round_workers.specs.Workers.{WorkerValue, KnowsBest, HasTried}
 use Rattle.round_workers.proofs.Steps.{looked_settled}
 
 module _ (f : FoldValue) (x : Bricks) (k : ℕ) where
@@ -52,13 +54,27 @@ module _ (f : FoldValue) (x : Bricks) (gains : List (Option ℕ)) (are : HasGain
       ap (option_map (λ g. record { gain = g; k = k }))
       (gain_once f x k (gain_of gains k) (Some s.gain) listed (found_gain f x k s found))
 
+  -- a length of which no step gains has no gain
+  pub none_gain : NoneOfLength f x k → gain_of gains k ≡ None
+  none_gain none = gain_once f x k (gain_of gains k) None listed none
+
   -- a length that is beaten has no gain, or the bound beats its key
   pub beaten_outdone : (bound : Option Key) → IsBeaten f x k bound → IsOutdone gains k bound
   beaten_outdone bound is = ⊎_elim
-      (λ (none : NoneOfLength f x k). inl (gain_once f x k (gain_of gains k) None listed none))
+      (λ (none : NoneOfLength f x k). inl (none_gain none))
       (λ (b : (s : Step) × IsFound f x k s × IsTrue (beaten (record { gain = s.gain; k = k }) bound)).
       inr (record { gain = b.0.gain; k = k }, found_key b.0 b.1, b.2))
       is
+
+-- what outdoes a length, or a later bound that is no worse, outdoes it
+pub IsOutdone-later : (gains : List (Option ℕ)) (k : ℕ) (old now : Option Key) → IsNoWorse old now
+    → IsOutdone gains k old → IsOutdone gains k now
+IsOutdone-later gains k old now later outdone = ⊎_elim
+    (λ none. inl none)
+    (λ (o : (key : Key) × (length_key gains k ≡ Some key) × IsTrue (beaten key old)).
+    let before = outranks-beaten o.0 old ∙ o.2 in
+    inr (o.0, o.1, sym (outranks-beaten o.0 now) ∙ beats_before old now (Some o.0) before later))
+    outdone
 
 -- two counts of the same numbers are equal
 pub same_count : (P : ℕ → Type 0) (a b : ℕ) → ((k : ℕ) → (k < a) ↔ P k) → ((k : ℕ) → (k < b) ↔ P k) → a ≡ b
@@ -85,13 +101,16 @@ answer_beaten f x k bound a is answer = subst (IsStepAnswer f x k bound) is answ
 -- the seat b looked before it settled the length
 module _ (f : FoldValue) (x : Bricks) (k : ℕ) (w r : WorkerValue) (b : View) (bound : Option Key) (a : StepAnswer)
     (looked : b ≡ seeing_view w.held.view b.seen) (of : r.held.table ≡ w.held.table)
-    (answer : IsStepAnswer f x k bound a) where
+    (answer : IsStepAnswer f x k bound a) (best : KnowsBest f x r) where
   pub has_tried : (step : Option Step)
       → IfSome step (λ s. (a ≡ answers.Found s) × (r.held.view ≡ settling_view b k Offered r.held.view.seen))
       → IfNone step (r.held.view ≡ settling_view b k Beaten r.held.view.seen)
       → IfSome step (λ s. r.steps ≡ (w.steps ++ s ∷ [])) → IfNone step (r.steps ≡ w.steps) → HasTried f x k w r
-  has_tried None _ beaten _ same =
-      record { of = of; fate = inl (looked_settled w.held.view b r.held.view k Beaten looked beaten, same) }
+  has_tried None _ beaten _ same = record {
+    of = of;
+    fate = inl (looked_settled w.held.view b r.held.view k Beaten looked beaten, same);
+    best = best;
+  }
   has_tried (Some s) offered _ one _ = record {
     of = of;
     fate = inr (
@@ -100,4 +119,5 @@ module _ (f : FoldValue) (x : Bricks) (k : ℕ) (w r : WorkerValue) (b : View) (
       looked_settled w.held.view b r.held.view k Offered looked offered.1,
       one,
     );
+    best = best;
   }

@@ -1,10 +1,10 @@
 -- What the workers of a round know and keep.
-use Rattle.std.specs.Prelude.{◌≡◌, ◌≢◌, ℕ, suc, ◌+◌, ◌⊎◌, max, List, [], ◌∷◌, ◌++◌, length, All, Contains}
+use Rattle.std.specs.Prelude.{◌≡◌, ◌≢◌, ℕ, suc, ◌+◌, ◌⊎◌, max, List, [], ◌∷◌, ◌++◌, length, All, Contains, Bool, IsTrue}
 use Rattle.atomic_table.specs.Seated.{TableId}
 use Rattle.fold_theory.specs.Programs.{Bricks}
 use Rattle.run_theory.specs.Outcomes.{Step}
 use Rattle.run_theory.specs.Folds.{FoldValue}
-use Rattle.run_theory.specs.Bests.{IsFound}
+use Rattle.run_theory.specs.Bests.{IsFound, NoneOfLength}
 use Rattle.round_core.specs.declared.parts.Fate.TheVariants.{Offered, Beaten}
 use Rattle.round_core.specs.declared.parts.Stand.TheVariants.{Working, Finished}
 use Rattle.board_laws.specs.declared.views.Owned.{Owned}
@@ -12,10 +12,11 @@ use Rattle.board_laws.specs.Views.{opening_view, settling_view}
 use Rattle.board_laws.specs.Closing.{IsSettled}
 use Rattle.incumbent.specs.Seats.{Held}
 
--- a worker's seat, and the steps of the lengths that it offered
+-- a worker's seat, the steps of the lengths that it offered, and whether it knows the point as a best one
 pub record WorkerValue : Type 0 where
   pub held : Held
   pub steps : List Step
+  pub at_best : Bool
 
 -- each length that was offered has its step among these
 abbrev pub HasSteps : List Step → List Owned → Type 0
@@ -27,11 +28,16 @@ pub record Keeps (f : FoldValue) (x : Bricks) (w : WorkerValue) : Type 0 where
   pub kept : HasSteps w.steps w.held.view.owned
   pub found : All (λ s. IsFound f x s.k s) w.steps
 
+-- from a point that the worker knows as a best one no step of any length gains
+abbrev pub KnowsBest : FoldValue → Bricks → WorkerValue → Type 0
+KnowsBest f x w = IsTrue w.at_best → (k : ℕ) → NoneOfLength f x k
+
 -- a worker before its first claim
 pub record IsReady (f : FoldValue) (x : Bricks) (table : TableId) (w : WorkerValue) : Type 0 where
   pub of : w.held.table ≡ table
   pub working : w.held.view.stand ≡ Working
   pub keeps : Keeps f x w
+  pub best : KnowsBest f x w
 
 -- the worker after it tried a length: its best step was offered, or the length is beaten
 pub record HasTried (f : FoldValue) (x : Bricks) (k : ℕ) (w r : WorkerValue) : Type 0 where
@@ -39,6 +45,7 @@ pub record HasTried (f : FoldValue) (x : Bricks) (k : ℕ) (w r : WorkerValue) :
   pub fate : ((r.held.view ≡ settling_view w.held.view k Beaten r.held.view.seen) × (r.steps ≡ w.steps))
       ⊎ ((s : Step) × IsFound f x k s × (r.held.view ≡ settling_view w.held.view k Offered r.held.view.seen)
       × (r.steps ≡ (w.steps ++ s ∷ [])))
+  pub best : KnowsBest f x r
 
 -- the worker after its last claim
 pub record IsDone (f : FoldValue) (x : Bricks) (w r : WorkerValue) : Type 0 where

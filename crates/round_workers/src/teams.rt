@@ -38,6 +38,7 @@ pub(crate) fn team<N: Gains>(
             number: made,
             seat,
             steps: Vec::new(alloc),
+            at_best: false,
         })?;
         made += 1;
     }
@@ -45,6 +46,7 @@ pub(crate) fn team<N: Gains>(
         number: 0,
         seat: opening,
         steps: Vec::new(alloc),
+        at_best: false,
     })?;
     Ok(all)
 }
@@ -129,6 +131,7 @@ fn take_in<N: Gains>(
         number: _,
         seat,
         mut steps,
+        at_best: _,
     } = other;
     board.join(&mut worker.seat, seat);
     worker.steps.append(&mut steps)

@@ -319,6 +319,13 @@ impl HoldsLengths {
         }
     }
 
+    /// How often a worker passed with the length with this index.
+    fn passed(&self, length: usize) -> u64
+        requires { length ≤ 2 }
+    {
+        self.passes[length].load(Ordering::SeqCst)
+    }
+
     /// How many moves were tried for the length with this index.
     fn tried(&self, length: usize) -> u64
         requires { length ≤ 2 }
@@ -370,6 +377,21 @@ fn a_step_that_was_offered_spares_the_other_lengths(rt: HostRuntime) -> Result<(
     let beside = HoldsLengths::new(true);
     assert!(rt; finds_at(&rt, rt.alloc(), 2, &beside)?);
     assert_eq!(rt; beside.tried(1), 0);
+    Ok(())
+}
+
+#[test]
+fn one_worker_knows_a_best_point_by_length_one(rt: HostRuntime) -> Result<(), Fail> {
+    let alloc = rt.alloc();
+    let gate = HoldsLengths::new(false);
+    let program = two_bricks(alloc)?;
+    let entries = [1, 3, 2, 2].to_vec(alloc)?;
+    assert!(rt; step_from(&rt, alloc, &program, entries, 1, &gate)?.is_none());
+    assert!(rt; 1 <= gate.tried(0));
+    for length in [1, 2] {
+        assert_eq!(rt; gate.passed(length), 1, "at {length}");
+        assert_eq!(rt; gate.tried(length), 0, "at {length}");
+    }
     Ok(())
 }
 

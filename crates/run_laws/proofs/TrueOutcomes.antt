@@ -44,7 +44,8 @@ module _ (p : Program) where
       let rest = settled basis bs traces x is.1 all.2 in
       ((end.within, rest.0), (met b v is.0.right_size all.1, rest.1))
 
-  settled_start : (basis : List Vector) (traces : List (List BrickMove)) (x : Bricks) → IsProgram p →
+  -- so the first phase can start there
+  pub settled_start : (basis : List Vector) (traces : List (List BrickMove)) (x : Bricks) → IsProgram p →
       AllSettle p basis p.bricks traces x → IsStart p Counted x
   settled_start basis traces x program all =
       let both = settled basis p.bricks traces x (bricks_of p program) all in

@@ -1,4 +1,5 @@
--- A unit step that moves something is a candidate step, so where no candidate lowers the phase cost no unit step does.
+-- A unit step that moves something is a candidate step of length 1, so where no such one lowers the phase cost no unit
+-- step does.
 use Rattle.std.proofs.Common.{◌≡◌, ℕ, pos, negsuc, ℤ, ◌-ℤ◌, ◌≤ℤ◌, ◌<ℤ◌, true, false, List, [], ◌∷◌, length, refl, ap, arith, sym, ◌∙◌, Contains, inl, inr, subst}
 use Rattle.std.proofs.lemmas.Int.{ints}
 use Rattle.std.proofs.lemmas.List.Elements.{All-from_recursion}
@@ -10,7 +11,7 @@ use Rattle.lattice_laws.proofs.Tests.{and_true, true_or_false}
 use Rattle.lattice_laws.proofs.Products.{zeros_is}
 use Rattle.lattice_laws.proofs.Sums.{add_zeros}
 use Rattle.fold_theory.specs.Programs.{Program, Bricks, AreWithin, phase_cost}
-use Rattle.run_theory.specs.Steps.{partial_sums, AllowsEnd, IsCandidate, NoneAugments}
+use Rattle.run_theory.specs.Steps.{partial_sums, AllowsEnd, IsCandidate, Augments}
 use Rattle.piece_laws.specs.Points.{forth}
 use Rattle.piece_laws.specs.Pieces.{IsUnitStep}
 use Rattle.piece_laws.proofs.Points.{moved_once}
@@ -42,15 +43,15 @@ module _ (p : Program) (phase : Phase) (zs : List Vector) (x : Bricks) where
         end = subst (AllowsEnd p phase) once step.end;
       }
 
-  -- where no candidate lowers the phase cost, no unit step leads to a lower one
-  pub no_gain : AreSized p.brick.cols x → NoneAugments p phase zs x → (h : Bricks) → IsUnitStep p phase zs x h →
-      phase_cost p phase x ≤ℤ phase_cost p phase (forth x h)
+  -- where no candidate of length 1 lowers the phase cost, no unit step leads to a lower one
+  pub no_gain : AreSized p.brick.cols x → ((h : Bricks) → Augments p phase zs x 0 h → ⊥) → (h : Bricks) →
+      IsUnitStep p phase zs x h → phase_cost p phase x ≤ℤ phase_cost p phase (forth x h)
   no_gain sx none h step = elim (true_or_false (list_all is_zero h)) [
     | inl zero_move ↦
         let same = forth_none p.brick.cols x h sx step.sized step.size zero_move in
         omega (arith, ints, ap (phase_cost p phase) same)
     | inr some ↦
-        not_lower (phase_cost p phase (forth x h) -ℤ phase_cost p phase x) refl (λ lower. none 0 h (record {
+        not_lower (phase_cost p phase (forth x h) -ℤ phase_cost p phase x) refl (λ lower. none h (record {
           candidate = candidate h step some;
           lowers = omega (arith, ints, ap (phase_cost p phase) (moved_once x h), lower);
         }))

@@ -1,4 +1,4 @@
-use Rattle.std.proofs.Common.{◌≡◌, ◌∙◌, length, ap, sym, subst}
+use Rattle.std.proofs.Common.{◌∙◌, length, ap, sym, subst}
 use Rattle.fold_theory.specs.Programs.{IsLength, widest}
 use Rattle.rule_laws.proofs.Gains.{no_gain}
 use Rattle.step_lengths.specs.Lengths.{IsLengthCount}
@@ -50,7 +50,8 @@ pub returns : goal.returns
 returns g c =
     let f = c.args.task.now.fold.now in
     let x = c.args.task.now.point.now in
-    let w : WorkerValue = record { held = c.seat.inside.seat; steps = c.seat.inside.steps.items } in
+    let inside = c.seat.inside in
+    let w : WorkerValue = record { held = inside.seat; steps = inside.steps.items; at_best = inside.at_best } in
     let keeps = subst (Keeps f x) (sym c.seat.view_is) c.in_ok-seat.ensures.keeps in
     let closed = c.in-Some-close.ensures in
     let step = c.step_of.ensures in

@@ -12,6 +12,10 @@ tried-requires-clause-fate g c _ _ =
     subst (λ (u : View). HasFate c.in-Some.k Open u.owned) (sym c.in-Some.ensures.claimed)
     (claimed_has c.loop-k.worker.held.view c.in-Some.k)
 
+pub tried-requires-clause-best : goal.tried-requires-clause-best
+tried-requires-clause-best g c _ _ =
+    λ known. c.loop-k.invariant.6 (sym c.in-Some.ensures.at_best ∙ known)
+
 pub loop-k-smaller : goal.loop-k-smaller
 loop-k-smaller g c =
     let claimed = c.in-Some.ensures in
@@ -42,6 +46,7 @@ loop-k-preserved g c =
           ∙ before.4,
       tried_same f x k w d r before.2 claimed.claimed claimed.steps tried (λ (v : View). v.made) (λ v fate i. refl)
           ∙ before.5,
+      tried.best,
     )
 
 pub returns : goal.returns
