@@ -102,6 +102,13 @@ pub sized_at : (vs : Bricks) (t i : ℕ) (v : Vector) → All (λ v. length v �
 sized_at vs t i v widths there = ap length (sym (get_or_from_slice_get vs i v v there))
     ∙ widths i v (slice_get_within vs i v there)
 
+-- a brick of a point within the bounds is as wide as the program that is read
+pub width_at : (p q : Program) (x : Bricks) (i : ℕ) (v : Vector) → q ≡ p → IsProgram q → AreWithin p.bricks x →
+    slice_get x i ≡ Some v → length v ≡ q.link.cols
+width_at p q x i v same program within there =
+    sized_at x q.link.cols i v
+    (shape_of q x program (subst (λ (r : Program). AreWithin r.bricks x) (sym same) within)).widths there
+
 -- the entries of a point within the bounds, one after the other, make that point
 pub rows_of_point : (p : Program) (y : Bricks) (entries : Vector) → IsProgram p → AreWithin p.bricks y →
     entries ≡ flat_map (λ v. v) y →

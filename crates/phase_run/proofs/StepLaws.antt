@@ -1,6 +1,7 @@
 -- The point after a step, brick by brick: what was recorded of the step is read beside the point.
 use Rattle.std.proofs.Common.{◌≡◌, ℕ, zero, suc, ◌+◌, ◌-◌, ◌^◌, ◌<◌, ◌≤◌, pos, Bool, true, false, List, [], ◌∷◌, ◌++◌}
-use Rattle.std.proofs.Common.{length, take, drop, get_or, refl, ap, arith, sym, ◌∙◌, Some, Option, slice_get, All}
+use Rattle.std.proofs.Common.{length, take, drop, get_or, refl, ap, arith, sym, subst, ◌∙◌}
+use Rattle.std.proofs.Common.{Some, Option, slice_get, All}
 use Rattle.std.proofs.Common.{flat_map, append-nil}
 use Rattle.std.proofs.lemmas.List.{take_more, take_all, length-append, length-drop}
 use Rattle.std.proofs.Math.Seq.{drop-cons, take-append_seam, drop-append_seam}
@@ -10,9 +11,12 @@ use Rattle.lattice_theory.specs.Vectors.{Vector, add, scale, zeros, is_zero}
 use Rattle.lattice_laws.proofs.Products.{zeros_is}
 use Rattle.lattice_laws.proofs.Multiples.{scale-zeros}
 use Rattle.lattice_laws.proofs.Sums.{add_zeros}
-use Rattle.fold_theory.specs.Programs.{Bricks}
-use Rattle.run_theory.specs.Steps.{moved}
+use Rattle.lattice_theory.specs.SignedSums.{vectors}
+use Rattle.fold_theory.specs.Programs.{Program, IsProgram, Bricks, AreWithin}
+use Rattle.run_theory.specs.Folds.{FoldValue}
+use Rattle.run_theory.specs.Steps.{Move, IsBest, moved}
 use Rattle.run_theory.specs.Outcomes.{nonzero_from, nonzero_entries}
+use Rattle.phase_run.proofs.PointLaws.{shape_of, step_sizes}
 
 -- ---- lists
 
@@ -243,3 +247,33 @@ module _ (t k : ℕ) (x h : Bricks) where
         length-moved [] h = omega arith
         length-moved (v ∷ x) [] = omega arith
         length-moved (v ∷ x) (d ∷ h) = omega (arith, length-moved x h)
+
+-- ---- the part of a brick that is named, where a program of n bricks with t columns is read
+
+pub record NamedPart (h : Bricks) (t i : ℕ) (parts : Vector) : Type 0 where
+  pub part : Vector
+  pub there : slice_get h i ≡ Some part
+  pub is : take t parts ≡ part
+  pub room : t ≤ length parts
+
+pub named_part : (f : FoldValue) (x : Bricks) (m : Move) (p : Program) (n t i : ℕ) (names : List ℕ)
+    (parts entries : Vector) → p ≡ f.program → IsProgram p → n ≡ length p.bricks → t ≡ p.link.cols →
+    AreWithin f.program.bricks x → All (λ w. length w ≡ f.program.brick.cols) (vectors f.sums) →
+    IsBest f.program f.phase (vectors f.sums) x m → i < n → slice_get names 0 ≡ Some (i + 1) →
+    SteppedUpTo f.program.link.cols m.k x m.bricks i names parts entries → NamedPart m.bricks t i parts
+named_part f x m p n t i names parts entries same is_program bricks cols within widths best low named so_far =
+    let program : IsProgram f.program = subst IsProgram same is_program in
+    let sizes = step_sizes f x m program within widths best in
+    let shape = shape_of f.program x program within in
+    let inside : i < length x =
+    omega (arith, low, bricks, ap (λ (q : Program). length q.bricks) same, shape.bricks) in
+    let width : t ≡ f.program.link.cols = cols ∙ ap (λ (q : Program). q.link.cols) same in
+    let own =
+    part_of f.program.link.cols m.k x m.bricks sizes.same sizes.point sizes.parts i names parts entries inside named
+    so_far in
+    record {
+      part = own.part;
+      there = own.there;
+      is = ap (λ c. take c parts) width ∙ own.is;
+      room = omega (arith, width, own.room);
+    }

@@ -10,9 +10,9 @@ use Rattle.fold_program.specs.Points.{IsPoint}
 use Rattle.run_theory.specs.Steps.{moved}
 use Rattle.run_theory.specs.Outcomes.{Step}
 use Rattle.step_targets.specs.Targets.{after, AreBetween}
-use Rattle.phase_run.proofs.PointLaws.{shape_of, step_sizes, part_within, leads_somewhere, leads_there, sized_at}
-use Rattle.phase_run.proofs.PointLaws.{if_some, rows_of_point, length-entries}
-use Rattle.phase_run.proofs.StepLaws.{rest_of, part_of, moved_there, stepped_moved, stepped_still, stepped_all}
+use Rattle.phase_run.proofs.PointLaws.{shape_of, step_sizes, part_within, leads_somewhere, leads_there}
+use Rattle.phase_run.proofs.PointLaws.{if_some, rows_of_point, length-entries, width_at}
+use Rattle.phase_run.proofs.StepLaws.{rest_of, named_part, moved_there, stepped_moved, stepped_still, stepped_all}
 use Rattle.phase_run.proofs.points.stepped.Goals as goal
 use Rattle.phase_run.proofs.points.stepped.Goals.{then-is_first+in_ok-end+in-Some+in_ok-extend_from_slice}
 use Rattle.phase_run.proofs.points.stepped.Goals.{else-is_first+in_ok-extend_from_slice-2}
@@ -29,95 +29,54 @@ brick-at-requires-clause-to c =
 
 pub slice_bounds-target-end : goal.slice_bounds-target-end
 slice_bounds-target-end c =
-    let f = c.args.fold.now in
-    let x = c.args.point.now in
-    let program : IsProgram f.program = subst IsProgram c.program-program.ensures c.n-i-end.ensures.program in
-    let shape = shape_of f.program x program c.requires.start.within in
-    let bricks : c.n-i-end.result ≡ length f.program.bricks =
-    c.n-i-end.ensures.bricks ∙ ap (λ (p : Program). length p.bricks) c.program-program.ensures in
     let m = c.requires.step.0 in
     let best = c.requires.step.1 in
-    let is = c.requires.step.2 in
-    let sizes = step_sizes f x m program c.requires.start.within c.sums.ensures.fold.widths best in
     let part =
-    part_of f.program.link.cols m.k x m.bricks sizes.same sizes.point sizes.parts c.loop-i.i c.loop-i.names.now
-    c.loop-i.parts.now c.loop-i.entries.items
-    (omega (arith, shape.bricks, bricks)) c.if-is_first.ensures (c.loop-i.invariant m best is) in
-    let cols : c.t-cols.result ≡ f.program.link.cols =
-    c.t-cols.ensures.cols ∙ ap (λ (p : Program). p.link.cols) c.program-program.ensures in
-    omega (arith, length-take c.t-cols.result c.loop-i.parts.now, part.room, cols)
+    named_part c.args.fold.now c.args.point.now m _ _ _ _ _ _ _ c.program-program.ensures c.n-i-end.ensures.program
+    c.n-i-end.ensures.bricks c.t-cols.ensures.cols c.requires.start.within c.sums.ensures.fold.widths best
+    c.loop-i-test.true c.if-is_first.ensures (c.loop-i.invariant m best c.requires.step.2) in
+    omega (arith, length-take c.t-cols.result c.loop-i.parts.now, part.room)
 
 pub target-requires-clause-lowers : goal.target-requires-clause-lowers
 target-requires-clause-lowers c =
-    let f = c.args.fold.now in
-    let x = c.args.point.now in
-    let program : IsProgram f.program = subst IsProgram c.program-program.ensures c.n-i-end.ensures.program in
-    let shape = shape_of f.program x program c.requires.start.within in
-    let bricks : c.n-i-end.result ≡ length f.program.bricks =
-    c.n-i-end.ensures.bricks ∙ ap (λ (p : Program). length p.bricks) c.program-program.ensures in
-    let width =
-    sized_at x f.program.link.cols (c.loop-i.i + 1 - 1) c.brick-at.result.now shape.widths c.brick-at.ensures.vector
-    in
-    omega (arith, width, c.lower_row-lower.ensures.width, ap (λ (p : Program). p.link.cols) c.program-program.ensures)
+    let width = width_at c.args.fold.now.program _ c.args.point.now _ _ c.program-program.ensures
+    c.n-i-end.ensures.program c.requires.start.within c.brick-at.ensures.vector in
+    omega (arith, width, c.lower_row-lower.ensures.width)
 
 pub target-requires-clause-uppers : goal.target-requires-clause-uppers
 target-requires-clause-uppers c =
-    let f = c.args.fold.now in
-    let x = c.args.point.now in
-    let program : IsProgram f.program = subst IsProgram c.program-program.ensures c.n-i-end.ensures.program in
-    let shape = shape_of f.program x program c.requires.start.within in
-    let bricks : c.n-i-end.result ≡ length f.program.bricks =
-    c.n-i-end.ensures.bricks ∙ ap (λ (p : Program). length p.bricks) c.program-program.ensures in
-    let width =
-    sized_at x f.program.link.cols (c.loop-i.i + 1 - 1) c.brick-at.result.now shape.widths c.brick-at.ensures.vector
-    in
-    omega (arith, width, c.upper_row-upper.ensures.width, ap (λ (p : Program). p.link.cols) c.program-program.ensures)
+    let width = width_at c.args.fold.now.program _ c.args.point.now _ _ c.program-program.ensures
+    c.n-i-end.ensures.program c.requires.start.within c.brick-at.ensures.vector in
+    omega (arith, width, c.upper_row-upper.ensures.width)
 
 pub target-requires-clause-width : goal.target-requires-clause-width
 target-requires-clause-width c =
-    let f = c.args.fold.now in
-    let x = c.args.point.now in
-    let program : IsProgram f.program = subst IsProgram c.program-program.ensures c.n-i-end.ensures.program in
-    let shape = shape_of f.program x program c.requires.start.within in
-    let bricks : c.n-i-end.result ≡ length f.program.bricks =
-    c.n-i-end.ensures.bricks ∙ ap (λ (p : Program). length p.bricks) c.program-program.ensures in
     let m = c.requires.step.0 in
     let best = c.requires.step.1 in
-    let is = c.requires.step.2 in
-    let sizes = step_sizes f x m program c.requires.start.within c.sums.ensures.fold.widths best in
     let part =
-    part_of f.program.link.cols m.k x m.bricks sizes.same sizes.point sizes.parts c.loop-i.i c.loop-i.names.now
-    c.loop-i.parts.now c.loop-i.entries.items
-    (omega (arith, shape.bricks, bricks)) c.if-is_first.ensures (c.loop-i.invariant m best is) in
-    let cols : c.t-cols.result ≡ f.program.link.cols =
-    c.t-cols.ensures.cols ∙ ap (λ (p : Program). p.link.cols) c.program-program.ensures in
-    let width =
-    sized_at x f.program.link.cols (c.loop-i.i + 1 - 1) c.brick-at.result.now shape.widths c.brick-at.ensures.vector
-    in
-    omega (arith, length-take c.t-cols.result c.loop-i.parts.now, part.room, cols, width)
+    named_part c.args.fold.now c.args.point.now m _ _ _ _ _ _ _ c.program-program.ensures c.n-i-end.ensures.program
+    c.n-i-end.ensures.bricks c.t-cols.ensures.cols c.requires.start.within c.sums.ensures.fold.widths best
+    c.loop-i-test.true c.if-is_first.ensures (c.loop-i.invariant m best c.requires.step.2) in
+    let width = width_at c.args.fold.now.program _ c.args.point.now _ _ c.program-program.ensures
+    c.n-i-end.ensures.program c.requires.start.within c.brick-at.ensures.vector in
+    omega (arith, length-take c.t-cols.result c.loop-i.parts.now, part.room, width, c.t-cols.ensures.cols)
 
 pub unreachable-requires : goal.unreachable-requires
 unreachable-requires c =
     let f = c.args.fold.now in
     let x = c.args.point.now in
-    let program : IsProgram f.program = subst IsProgram c.program-program.ensures c.n-i-end.ensures.program in
-    let shape = shape_of f.program x program c.requires.start.within in
-    let bricks : c.n-i-end.result ≡ length f.program.bricks =
-    c.n-i-end.ensures.bricks ∙ ap (λ (p : Program). length p.bricks) c.program-program.ensures in
     let m = c.requires.step.0 in
     let best = c.requires.step.1 in
-    let is = c.requires.step.2 in
-    let sizes = step_sizes f x m program c.requires.start.within c.sums.ensures.fold.widths best in
     let part =
-    part_of f.program.link.cols m.k x m.bricks sizes.same sizes.point sizes.parts c.loop-i.i c.loop-i.names.now
-    c.loop-i.parts.now c.loop-i.entries.items
-    (omega (arith, shape.bricks, bricks)) c.if-is_first.ensures (c.loop-i.invariant m best is) in
-    let cols : c.t-cols.result ≡ f.program.link.cols =
-    c.t-cols.ensures.cols ∙ ap (λ (p : Program). p.link.cols) c.program-program.ensures in
+    named_part c.args.fold.now c.args.point.now m _ _ _ _ _ _ _ c.program-program.ensures c.n-i-end.ensures.program
+    c.n-i-end.ensures.bricks c.t-cols.ensures.cols c.requires.start.within c.sums.ensures.fold.widths best
+    c.loop-i-test.true c.if-is_first.ensures (c.loop-i.invariant m best c.requires.step.2) in
+    let program : IsProgram f.program = subst IsProgram c.program-program.ensures c.n-i-end.ensures.program in
+    let sizes = step_sizes f x m program c.requires.start.within c.sums.ensures.fold.widths best in
     let index : c.loop-i.i + 1 - 1 ≡ c.loop-i.i = omega arith in
     let at : slice_get x c.loop-i.i ≡ Some c.brick-at.result.now =
     ap (slice_get x) (sym index) ∙ c.brick-at.ensures.vector in
-    let number : c.step.inside.k ≡ m.k = ap (λ (s : Step). s.k) (c.step.view_is ∙ is) in
+    let number : c.step.inside.k ≡ m.k = ap (λ (s : Step). s.k) (c.step.view_is ∙ c.requires.step.2) in
     let there = moved_there f.program.link.cols m.k x m.bricks sizes.same sizes.point sizes.parts c.loop-i.i
     c.brick-at.result.now part.part at part.there in
     let lowers =
@@ -130,32 +89,20 @@ unreachable-requires c =
     part_within f x m c.loop-i.i c.step.inside.k c.brick-at.result.now part.part c.lower_row-lower.result.now
     c.upper_row-upper.result.now best number there
     lowers uppers in
-    let taken : take c.t-cols.result c.loop-i.parts.now ≡ part.part =
-    ap (λ n. take n c.loop-i.parts.now) cols ∙ part.is in
     leads_somewhere c.lower_row-lower.result.now c.upper_row-upper.result.now _ c.in_ok-end.field-0 c.in_ok-end.ensures
     c.in_default.is
     (subst (λ d. AreBetween c.lower_row-lower.result.now c.upper_row-upper.result.now
-    (after c.step.inside.k c.brick-at.result.now d)) (sym taken) between)
+    (after c.step.inside.k c.brick-at.result.now d)) (sym part.is) between)
 
 pub slice_bounds-parts-count : goal.slice_bounds-parts-count
 slice_bounds-parts-count c =
-    let f = c.args.fold.now in
-    let x = c.args.point.now in
-    let program : IsProgram f.program = subst IsProgram c.program-program.ensures c.n-i-end.ensures.program in
-    let shape = shape_of f.program x program c.requires.start.within in
-    let bricks : c.n-i-end.result ≡ length f.program.bricks =
-    c.n-i-end.ensures.bricks ∙ ap (λ (p : Program). length p.bricks) c.program-program.ensures in
     let m = c.requires.step.0 in
     let best = c.requires.step.1 in
-    let is = c.requires.step.2 in
-    let sizes = step_sizes f x m program c.requires.start.within c.sums.ensures.fold.widths best in
     let part =
-    part_of f.program.link.cols m.k x m.bricks sizes.same sizes.point sizes.parts c.loop-i.i c.loop-i.names.now
-    c.loop-i.parts.now c.loop-i.entries.items
-    (omega (arith, shape.bricks, bricks)) c.if-is_first.ensures (c.loop-i.invariant m best is) in
-    let cols : c.t-cols.result ≡ f.program.link.cols =
-    c.t-cols.ensures.cols ∙ ap (λ (p : Program). p.link.cols) c.program-program.ensures in
-    omega (arith, part.room, cols)
+    named_part c.args.fold.now c.args.point.now m _ _ _ _ _ _ _ c.program-program.ensures c.n-i-end.ensures.program
+    c.n-i-end.ensures.bricks c.t-cols.ensures.cols c.requires.start.within c.sums.ensures.fold.widths best
+    c.loop-i-test.true c.if-is_first.ensures (c.loop-i.invariant m best c.requires.step.2) in
+    omega (arith, part.room)
 
 pub slice_bounds-parts-start : goal.slice_bounds-parts-start
 slice_bounds-parts-start c = let room = slice_bounds-parts-count c in search rules
