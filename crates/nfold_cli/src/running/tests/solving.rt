@@ -327,6 +327,11 @@ fn a_trial_is_solved_and_checked(rt: HostRuntime) -> Result<(), Fail> {
     )?;
     expect_trial(
         &rt,
+        "trial 11 40",
+        "trial number 11 bricks 40 optimal cost 283 made 14 check yes\n",
+    )?;
+    expect_trial(
+        &rt,
         "trial 65535 3",
         "trial number 65535 bricks 3 optimal cost 23 made 2 check yes\n",
     )
