@@ -11,12 +11,14 @@ The program is that of crates/nfold/out unless another is given. The families ar
 - wide-2, -3, -4: the same with amounts up to some millions, so that workers have 24 step lengths to share.
 
 Each is run for n = 30, 100, 300, 1,000, 3,000 and 10,000, as far as --most and the table of layers allow, by each
-number of workers; the processor time is that of all of them together, the elapsed time what a user waits. With --peer
+number of workers; the processor time is that of all of them together, the elapsed time what a user waits. The growth is
+the power of n with which the processor time grew from the size before, and that of a step beside it. With --peer
 the program of a family that is not wide is given to `glpsol` too, where it is installed; it is a yardstick and nothing
 of the program needs it. The files lie in a new temporary folder, which goes again. What is printed is what was measured
 in this run on this machine, and nothing more.
 """
 import argparse
+import math
 import os
 import random
 import shutil
@@ -121,8 +123,17 @@ def made(family, n):
     return transport(int(family[-1]), n, chance, WIDE if family.startswith("wide") else 1)
 
 
-def measure(program, family, n, counts, with_peer):
-    """Prints a line for each number of workers."""
+def growth(before, n, seconds, steps):
+    """The powers of n with which the time of a run and of a step grew; nothing for the first size."""
+    if before is None or min(seconds, before[1], steps, before[2]) <= 0:
+        return " " * 14
+    times = math.log(n / before[0])
+    whole = math.log(seconds / before[1]) / times
+    return f"{whole:7.2f}{whole - math.log(steps / before[2]) / times:7.2f}"
+
+
+def measure(program, family, n, counts, with_peer, before):
+    """Prints a line for each number of workers; `before` has the sizes before, and gets this one."""
     parts, with_peer = made(family, n), with_peer and not family.startswith("wide")
     with tempfile.TemporaryDirectory() as folder:
         write(folder, parts)
@@ -134,7 +145,9 @@ def measure(program, family, n, counts, with_peer):
             end = f"{checked[2]:9.3f}" if checked[0] == 0 else f"status {status}, {checked[0]}"
             last = f"  {peer(folder, parts):9.3f}" if with_peer else ""
             times = f"{seconds:10.3f}{elapsed:11.3f}"
-            print(f"{family:12}{n:7}{workers:9}{steps:9}{times}{memory:8.0f} {end}{last}", flush=True)
+            grew = growth(before.get(workers), n, seconds, steps)
+            before[workers] = (n, seconds, steps)
+            print(f"{family:12}{n:7}{workers:9}{steps:9}{times}{grew}{memory:8.0f} {end}{last}", flush=True)
 
 
 def main():
@@ -147,11 +160,12 @@ def main():
     parser.add_argument("--peer", action="store_true")
     options = parser.parse_args()
     with_peer = options.peer and shutil.which("glpsol")
-    head = "family            n  workers    steps   solve s  elapsed s      MB   check s"
+    head = "family            n  workers    steps   solve s  elapsed s growth a step      MB   check s"
     print(head + ("   glpsol s" if with_peer else ""))
     for family in options.family:
+        before = {}
         for n in [n for n in SIZES if n <= options.most and (n + 1) * SUMS[family] <= 2**20]:
-            measure(os.path.abspath(options.program), family, n, options.workers, with_peer)
+            measure(os.path.abspath(options.program), family, n, options.workers, with_peer, before)
     return 0
 
 

@@ -3,10 +3,11 @@
 
     python3 trials/solve.py [--program FILE] [--count N] [--seed S]
 
-The programs are small and made at random, with costs that tie often, with and without relations. For each of them the
-printed text and the stored certificate are compared with those of trials/plain_solver.py, `check` has to say yes, and
-where there are few points all of them are tried: none may be better than the one that was printed. What differs is
-printed, and the status is 1 where anything does. The gate does not run it.
+The programs are small, a few with up to 40 bricks, and made at random, with costs that tie often, with and without
+relations. For each of them the printed text and the stored certificate are compared with those of
+trials/plain_solver.py, `check` has to say yes, and where there are few points all of them are tried: none may be better
+than the one that was printed. What differs is printed, and the status is 1 where anything does. The gate does not run
+it.
 """
 import argparse
 import itertools
@@ -37,6 +38,9 @@ def random_cost(chance, lower, upper):
 def random_program(chance):
     t, r, s = chance.randint(1, 3), chance.randint(0, 2), chance.randint(0, 2)
     n = chance.randint(1, 4)
+    if chance.random() < 0.15:
+        # more than one block of bricks
+        t, n = min(t, 2), chance.randint(16, 40)
     entry = lambda: chance.choice([-1, 0, 1, 1, 1, 2]) if chance.random() < 0.7 else chance.choice([0, 1])
     link = [[entry() for _ in range(t)] for _ in range(r)]
     brick = [[entry() for _ in range(t)] for _ in range(s)]
