@@ -15,13 +15,13 @@ use Rattle.run_theory.specs.Links.{Bases, AreBases, generators, fold_complexity}
 use Rattle.run_theory.specs.Folds.{IsSmallImage}
 use Rattle.run_theory.specs.Limits.{SumStageWithin}
 use Rattle.run_theory.specs.Outcomes.{row_of_sum}
+use Rattle.lattice_laws.proofs.VectorLists.{length-kernel}
 use Rattle.layer_sieve.specs.Reaching.{AreAtMost}
 use Rattle.certificate.specs.Readable.{IsSumRow, IsCell}
 use Rattle.sum_laws.proofs.FoldLaws.{sums_wide, sums_small, sums_low}
 use Rattle.augment_run.specs.declared.solving.plans.Plan.{Plan}
 use Rattle.augment_run.specs.Solving.{caps_of}
 use Rattle.augment_run.specs.Stages.{bases_of, IsPlan}
-use Rattle.augment_run.proofs.RowLists.{length-kernel}
 
 module _ (p : Program) (plan : Plan) (x : Bricks) (is : IsPlan p x plan) where
   abbrev b : Bases

@@ -11,12 +11,12 @@ use Rattle.run_theory.specs.declared.SolveFault.TheVariants as fault
 use Rattle.run_theory.specs.Links.{generators, links_of}
 use Rattle.run_theory.specs.Limits.{BrickStageWithin, IsLimit, SumStageWithin, FitsTable}
 use Rattle.run_theory.specs.BrickSums.{ExceedsSums}
+use Rattle.lattice_laws.proofs.VectorLists.{length-kernel}
 use Rattle.pottier.specs.Bases.{BasisValue}
 use Rattle.augment_run.specs.declared.settings.Settings.{Settings}
 use Rattle.augment_run.specs.declared.solving.plans.Plan.{Plan}
 use Rattle.augment_run.specs.Solving.{caps_of}
 use Rattle.augment_run.specs.Stages.{AreAllowed, bases_of, IsPlan, IsBegun}
-use Rattle.augment_run.proofs.RowLists.{length-kernel}
 
 -- the tables of a program whose bricks settle at x
 pub plan_is : (p : Program) (s : Settings) (x : Bricks) (bricks basis : BasisValue) (kernel links : Matrix) →

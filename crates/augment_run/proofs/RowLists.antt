@@ -1,16 +1,14 @@
 -- Lists of rows, one after the other.
-use Rattle.std.proofs.Common.{◌≡◌, ℕ, zero, suc, ◌+◌, ◌-◌, ◌*◌, ◌^◌, ◌≤◌, ℤ, ◌≤ℤ◌, unsigned_abs, Bool, true, List, []}
-use Rattle.std.proofs.Common.{◌∷◌, ◌++◌, length, take, drop, get_or, refl, ap, arith, sym, ◌∙◌, subst, Some, Option}
-use Rattle.std.proofs.Common.{slice_get, All, IsTrue, flat_map, append-nil, length-append, IsTrue}
-use Rattle.std.specs.List.{AllZip, AllByRecursion, filter}
+use Rattle.std.proofs.Common.{◌≡◌, ℕ, zero, suc, ◌+◌, ◌-◌, ◌*◌, ◌≤◌, ℤ, ◌≤ℤ◌, List, [], ◌∷◌, ◌++◌, length, take, drop}
+use Rattle.std.proofs.Common.{get_or, refl, ap, arith, sym, ◌∙◌, subst, Some, Option, slice_get, All, IsTrue, flat_map}
+use Rattle.std.proofs.Common.{append-nil, length-append}
+use Rattle.std.specs.List.{AllZip, AllByRecursion}
 use Rattle.std.proofs.lemmas.Grind.{flat_map-append}
-use Rattle.std.proofs.lemmas.List.{take_more, take_all, length-map}
-use Rattle.std.proofs.lemmas.List.Sums.{length-filter, count_by-le-length}
-use Rattle.std.proofs.lemmas.List.Elements.{All-nil, All-cons, All-append, length_all_zip, recursion_from_All}
+use Rattle.std.proofs.lemmas.List.{take_more, take_all}
+use Rattle.std.proofs.lemmas.List.Elements.{All-append, length_all_zip, recursion_from_All}
 use Rattle.std.proofs.lemmas.Option.{slice_get_within, get_or_from_slice_get}
-use Rattle.lattice_theory.specs.Vectors.{Vector, is_bounded, is_zero, IsBoundedRow}
+use Rattle.lattice_theory.specs.Vectors.{Vector, is_bounded, IsBoundedRow}
 use Rattle.lattice_theory.specs.Matrices.{rows_of}
-use Rattle.lattice_theory.specs.Lattices.{kernel}
 use Rattle.fold_theory.specs.Programs.{Program, Brick, IsBrick, IsProgram, IsWithin}
 use Rattle.run_theory.specs.Certificates.{table_rows}
 use Rattle.fold_program.specs.Places.{OfBrick, HasBoundedSides}
@@ -74,17 +72,6 @@ pub cells_fit : (cols n : ℕ) (rows : List (List (Option ℤ))) (cells : List (
 cells_fit cols n rows cells count all widths =
     ap length all ∙ cell_count cols rows (recursion_from_All (λ row. length row ≡ cols) rows widths)
     ∙ ap (λ m. m * cols) (sym count)
-
--- a list has at least as many members as its kernel
-pub length-kernel : (cols : ℕ) (basis : List Vector) → length (kernel cols basis) ≤ length basis
-length-kernel cols basis =
-    let quiet : Vector → Bool = λ z. is_zero (drop cols z) in
-    omega (
-      arith,
-      length-map (filter quiet basis) (take cols),
-      length-filter quiet basis,
-      count_by-le-length quiet basis,
-    )
 
 -- ---- points
 

@@ -1,7 +1,10 @@
 -- A claim shows as the event Claim.
-use Rattle.std.proofs.Common.{◌≡◌, ◌≢◌, ℕ, suc, ◌+◌, ◌*◌, ◌<◌, Bool, true, false, cond, ◌&&◌, not, eqb, ltb, List, [], ◌∷◌, length, set, slice_index, Option, Some, None, IsTrue, refl, ap, sym, ◌∙◌, subst, arith, inl, inr, ⊎_elim, le_refl, length-set, get_or-set_same, get_or-set_other}
+use Rattle.std.proofs.Common.{◌≡◌, ◌≢◌, ℕ, suc, ◌+◌, ◌*◌, ◌<◌, Bool, true, false, cond, ◌&&◌, not, eqb, ltb, List, []}
+use Rattle.std.proofs.Common.{◌∷◌, length, set, slice_index, Option, Some, None, IsTrue, refl, ap, sym, ◌∙◌, subst}
+use Rattle.std.proofs.Common.{arith, inl, inr, ⊎_elim, le_refl, length-set, get_or-set_same, get_or-set_other}
 use Rattle.std.specs.List.{All}
 use Rattle.std.proofs.lemmas.List.Elements.{All-weaker, All-push, Contains-push}
+use Rattle.std.proofs.lemmas.Option.{none-some}
 use Rattle.round_core.specs.declared.events.Event.TheVariants.{Claim}
 use Rattle.round_core.specs.declared.parts.Fate.TheVariants.{Open}
 use Rattle.round_core.specs.declared.parts.Stand.TheVariants.{Working, Finished, Joined}
@@ -25,7 +28,7 @@ use Rattle.board_laws.proofs.Frames.{Left, each_length, lengths_are, step_shows}
 finished_not_joined : Finished ≡ Joined → ⊥
 finished_not_joined e = cc
 
-working_not_joined : Working ≡ Joined → ⊥
+pub working_not_joined : Working ≡ Joined → ⊥
 working_not_joined e = cc
 
 module _ (gains : List (Option ℕ)) (words : List ℕ) (views : List View) (id : ℕ) (v : View) (at : IsSeat views id v)
@@ -65,9 +68,6 @@ module _ (gains : List (Option ℕ)) (words : List ℕ) (views : List View) (id 
   taking = record (with_length r r.claims taken) { claims = suc r.claims }
 
   module _ (room : r.claims < length r.lengths) where
-    none_some : (j : ℕ) → None ≡ Some j → ⊥
-    none_some j e = cc
-
     unowned : owner_at r r.claims ≡ None
     unowned = (sound.unclaimed r.claims (le_refl _)).0
 
@@ -75,14 +75,14 @@ module _ (gains : List (Option ℕ)) (words : List ℕ) (views : List View) (id 
     taking_left k = ⊎_elim
         (λ e. inr (
           ap (λ i. owner_at taking i) e ∙ ap (λ (l : Length). l.owner) (length_here r r.claims taken room),
-          λ j o. absurd (none_some j (sym unowned ∙ ap (owner_at r) (sym e) ∙ o)),
+          λ j o. absurd (none-some j (sym unowned ∙ ap (owner_at r) (sym e) ∙ o)),
         ))
         (λ n. inl (length_else r r.claims k taken n))
         (same_or_else k r.claims)
 
     -- a length that the seat owns is not the one that it takes
     owned_else : (k : ℕ) → owner_at r k ≡ Some id → k ≢ r.claims
-    owned_else k o e = none_some id (sym unowned ∙ ap (owner_at r) (sym e) ∙ o)
+    owned_else k o e = none-some id (sym unowned ∙ ap (owner_at r) (sym e) ∙ o)
 
     owns_still : (e : Owned) → Owns r id e → Owns taking id e
     owns_still e o =
@@ -162,7 +162,8 @@ module _ (gains : List (Option ℕ)) (words : List ℕ) (views : List View) (id 
   by : (b : Bool) → ltb r.claims (length gains) ≡ b
       → Shows gains counted_words (set views id (cond b (taking_view v r.claims) (finished_view v)))
       (record (cond b (with_length r r.claims taken) (with_worker r id last)) { claims = suc r.claims })
-  by true e = takes (subst (λ n. r.claims < n) (sym (lengths_are gains r h.gains_are)) (less_of r.claims (length gains) e))
+  by true e = takes (subst (λ n. r.claims < n) (sym (lengths_are gains r h.gains_are))
+      (less_of r.claims (length gains) e))
   by false e = ends
 
   claim_shows : Shows gains counted_words (set views id (claimed_view (length gains) v r.claims)) (after r (Claim id))

@@ -1,15 +1,19 @@
 -- How a board begins, and what its end shows.
-use Rattle.std.proofs.Common.{◌≡◌, ◌≢◌, ℕ, zero, suc, ◌+◌, ◌*◌, ◌<◌, ◌≤◌, true, cond, eqb, not, ◌&&◌, ◌||◌, List, [], ◌∷◌, length, replicate, get_or, Option, Some, None, IsTrue, refl, ap, sym, ◌∙◌, subst, arith, ⊎_elim, true≢false, ne_eqb, get_or-set_same, get_or-set_other, length-set}
+use Rattle.std.proofs.Common.{◌≡◌, ◌≢◌, ℕ, zero, suc, ◌+◌, ◌*◌, ◌<◌, ◌≤◌, true, cond, eqb, not, ◌&&◌, ◌||◌, List, []}
+use Rattle.std.proofs.Common.{◌∷◌, length, replicate, get_or, Option, Some, None, IsTrue, refl, ap, sym, ◌∙◌, subst}
+use Rattle.std.proofs.Common.{arith, ⊎_elim, true≢false, ne_eqb, get_or-set_same, get_or-set_other, length-set}
 use Rattle.std.specs.List.{list_all}
 use Rattle.std.proofs.lemmas.List.{length-replicate, get_or-replicate}
 use Rattle.std.proofs.lemmas.List.Elements.{All-nil, All-contains}
+use Rattle.std.proofs.lemmas.Option.{none-some}
 use mathlib.Core.Option.{some-injective, some-ne-none}
 use Rattle.run_theory.specs.Bests.{IsBestByGains}
 use Rattle.round_core.specs.declared.parts.Fate.TheVariants.{Offered, Beaten}
 use Rattle.round_core.specs.declared.parts.Stand.TheVariants.{Working, Joined}
 use Rattle.round_core.specs.declared.parts.Length.{Length}
 use Rattle.round_core.specs.declared.parts.Worker.{Worker}
-use Rattle.round_core.specs.Rounds.{Round, unclaimed, no_worker, length_at, owner_at, fate_at, worker_at, stand_at, first_round}
+use Rattle.round_core.specs.Rounds.{Round, unclaimed, no_worker, length_at, owner_at, fate_at, worker_at, stand_at}
+use Rattle.round_core.specs.Rounds.{first_round}
 use Rattle.round_core.specs.Allowed.{is_live, is_fate}
 use Rattle.round_core.specs.Steps.{is_settled}
 use Rattle.round_core.specs.Sound.{NamesOffered, IsSound}
@@ -43,9 +47,7 @@ module _ (gains : List (Option ℕ)) (few : length gains ≤ 64) where
   length_is k = get_map unclaimed gains k None (unclaimed None) refl
 
   unowned : (k i : ℕ) → owner_at begun k ≢ Some i
-  unowned k i o = none_some (sym (ap (λ (l : Length). l.owner) (length_is k)) ∙ o) where
-    none_some : None ≡ Some i → ⊥
-    none_some e = cc
+  unowned k i o = none-some i (sym (ap (λ (l : Length). l.owner) (length_is k)) ∙ o)
 
   first_here : worker_at begun 0 ≡ first
   first_here = get_or-set_same workers 0 first no_worker
@@ -155,12 +157,14 @@ module _ (gains : List (Option ℕ)) (words : List ℕ) (views : List View) (id 
     settled_at k inside =
         let has = owned_all k inside in
         let own = All-contains (Owns r id) v.owned (owned k has.0) mine.owns has.1 in
-        ap (λ x. is_fate x Offered || is_fate x Beaten) own.1 ∙ All-contains IsSettled v.owned (owned k has.0) may.settled has.1
+        ap (λ x. is_fate x Offered || is_fate x Beaten) own.1
+        ∙ All-contains IsSettled v.owned (owned k has.0) may.settled has.1
 
     all_settled : IsTrue (is_settled r)
     all_settled = every r.lengths settled_at where
       every : (ls : List Length)
-          → ((k : ℕ) → k < length ls → IsTrue (is_fate (get_or ls k (unclaimed None)).fate Offered || is_fate (get_or ls k (unclaimed None)).fate Beaten))
+          → ((k : ℕ) → k < length ls → IsTrue (is_fate (get_or ls k (unclaimed None)).fate Offered || is_fate
+          (get_or ls k (unclaimed None)).fate Beaten))
           → IsTrue (list_all (λ l. is_fate l.fate Offered || is_fate l.fate Beaten) ls)
       every [] each = refl
       every (l ∷ ls) each = λ t. each 0 (omega arith) t && every ls (λ k low. each (suc k) (omega (arith, low))) t

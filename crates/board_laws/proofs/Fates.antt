@@ -1,5 +1,6 @@
 -- The lengths of a seat with their fates, and another fate of one of them.
-use Rattle.std.proofs.Common.{◌≡◌, ◌≢◌, ℕ, ◌<◌, cond, eqb, List, [], ◌∷◌, ◌++◌, map, refl, ap, ap₂, sym, ◌∙◌, subst, arith, ⊎_elim, eq-eqb, ne_eqb}
+use Rattle.std.proofs.Common.{◌≡◌, ◌≢◌, ℕ, ◌<◌, cond, eqb, List, [], ◌∷◌, ◌++◌, map, refl, ap, ap₂, sym, ◌∙◌, subst}
+use Rattle.std.proofs.Common.{arith, ⊎_elim, eq-eqb, ne_eqb}
 use Rattle.std.specs.List.{All, Contains}
 use Rattle.std.proofs.lemmas.List.{length-map}
 use Rattle.std.proofs.lemmas.List.Elements.{All-map, All-weaker, Contains-append_left, Contains-append_right}
@@ -31,8 +32,16 @@ marked_has k f g es has =
 -- no length is lost
 pub marked_keeps : (j k : ℕ) (g : Fate) (es : List Owned) → HasLength j es → HasLength j (marked k g es)
 marked_keeps j k g es (f, has) = ⊎_elim
-    (λ e. (g, subst (λ i. HasFate i g (marked k g es)) (sym e) (marked_has k f g es (subst (λ i. HasFate i f es) e has))))
-    (λ n. (f, subst (Contains (marked k g es)) (mark_else k g (owned j f) n) (Contains-map (mark k g) es (owned j f) has)))
+    (λ e. (
+      g,
+      subst (λ i. HasFate i g (marked k g es)) (sym e)
+          (marked_has k f g es (subst (λ i. HasFate i f es) e has)),
+    ))
+    (λ n. (
+      f,
+      subst (Contains (marked k g es)) (mark_else k g (owned j f) n)
+          (Contains-map (mark k g) es (owned j f) has),
+    ))
     (same_or_else j k)
 
 -- what holds of the marked length and held of all others holds of all

@@ -1,5 +1,6 @@
 -- One seat stepped: what the board shows after it, and what the other seats know.
-use Rattle.std.proofs.Common.{◌≡◌, ◌≢◌, ℕ, ◌<◌, ◌⊎◌, Bool, true, ◌&&◌, List, length, set, Option, Some, IsTrue, sum_by, ap, sym, ◌∙◌, subst, arith, ⊎_elim, length-set}
+use Rattle.std.proofs.Common.{◌≡◌, ◌≢◌, ℕ, ◌<◌, ◌⊎◌, Bool, true, ◌&&◌, List, length, set, Option, Some, IsTrue, sum_by}
+use Rattle.std.proofs.Common.{ap, sym, ◌∙◌, subst, arith, ⊎_elim, length-set}
 use Rattle.std.proofs.lemmas.List.{length-map}
 use Rattle.std.proofs.lemmas.List.Elements.{All-weaker}
 use Rattle.std.proofs.lemmas.Option.{same_Some}
@@ -105,7 +106,8 @@ module _ (gains : List (Option ℕ)) (words : List ℕ) (views : List View) (r :
         claims_are = claimed;
         best_is = named;
         halves = halves;
-        seats = each_knows r' w mine (λ i u other is. knows_else r r' id lengths i other (workers i other) u (h.seats i u is));
+        seats = each_knows r' w mine (λ i u other is. knows_else r r' id lengths i other (workers i other) u
+            (h.seats i u is));
         absent = λ i past. ap (λ (s : Worker). s.stand) (workers i (λ e. absurd (omega (arith, e, past, count, room))))
             ∙ h.absent i (omega (arith, past, count));
         counted = omega (arith, sum_is, a, t, seats);

@@ -1,5 +1,7 @@
 -- A seat that is joined into another shows as JoinSeat.
-use Rattle.std.proofs.Common.{◌≡◌, ◌≢◌, ℕ, suc, ◌+◌, ◌<◌, ◌⊎◌, Bool, true, false, cond, eqb, not, ◌&&◌, List, map, set, Option, Some, IsTrue, refl, ap, sym, ◌∙◌, subst, arith, inl, inr, ⊎_elim, true≢false, ne_eqb, length-set}
+use Rattle.std.proofs.Common.{◌≡◌, ◌≢◌, ℕ, suc, ◌+◌, ◌<◌, ◌⊎◌, Bool, true, false, cond, eqb, not, ◌&&◌, List, map, set}
+use Rattle.std.proofs.Common.{Option, Some, IsTrue, refl, ap, sym, ◌∙◌, subst, arith, inl, inr, ⊎_elim, true≢false}
+use Rattle.std.proofs.Common.{ne_eqb, length-set}
 use Rattle.std.proofs.lemmas.List.Elements.{All-nil, All-append, All-weaker}
 use Rattle.std.proofs.lemmas.Option.{same_Some}
 use mathlib.Core.Option.{some}
@@ -11,7 +13,7 @@ use Rattle.round_core.specs.declared.parts.Length.{Length}
 use Rattle.round_core.specs.declared.parts.Worker.{Worker}
 use Rattle.round_core.specs.Rounds.{Round, length_at, owner_at, fate_at, worker_at, stand_at, seen_at}
 use Rattle.round_core.specs.Allowed.{is_live, owned_by, is_allowed}
-use Rattle.round_core.specs.Steps.{with_worker, handed_over, joined_stand, joining, after}
+use Rattle.round_core.specs.Steps.{with_worker, handed_over, joined_stand, joining}
 use Rattle.round_core.specs.Steps as core
 use Rattle.round_core.specs.Sound.{IsSound}
 use Rattle.round_core.proofs.Decided.{equal_itself, owner_is}
@@ -121,7 +123,8 @@ module _ (gains : List (Option ℕ)) (words : List ℕ) (views : List View) (id 
     -- ---- the workers and the lengths after
 
     worker_id : worker_at next id ≡ into
-    worker_id = worker_else (with_worker handed id into) other id gone apart_id ∙ worker_here handed id into (live_room r id live_id)
+    worker_id = worker_else (with_worker handed id into) other id gone apart_id
+        ∙ worker_here handed id into (live_room r id live_id)
 
     worker_other : worker_at next other ≡ gone
     worker_other = worker_here (with_worker handed id into) other gone
@@ -143,7 +146,8 @@ module _ (gains : List (Option ℕ)) (words : List ℕ) (views : List View) (id 
 
     better_is : core.better r (seen_at r id) (seen_at r other) ≡ better gains (seen_at r id) (seen_at r other)
     better_is =
-        ap (λ b. cond b (seen_at r other) (seen_at r id)) (beats_index gains r h.gains_are (seen_at r other) (seen_at r id)
+        ap (λ b. cond b (seen_at r other) (seen_at r id)) (beats_index gains r h.gains_are (seen_at r other)
+        (seen_at r id)
         (offered_index gains r h.gains_are sound (seen_at r other) (sound.seen_offered other)))
 
     both_knows : Knows next id both
@@ -199,9 +203,11 @@ module _ (gains : List (Option ℕ)) (words : List ℕ) (views : List View) (id 
 
     all_know : (i : ℕ) (u : View) → IsSeat (set widened other spent_view) i u → Knows next i u
     all_know i u is = ⊎_elim
-        (λ (x : (i ≡ other) × (spent_view ≡ u)). subst (λ (y : ℕ × View). Knows next y.0 y.1) (λ t. (sym x.0 t, x.1 t)) spent_knows)
+        (λ (x : (i ≡ other) × (spent_view ≡ u)). subst (λ (y : ℕ × View). Knows next y.0 y.1) (λ t. (sym x.0 t, x.1 t))
+        spent_knows)
         (λ (x : (i ≢ other) × (get_elem? widened i ≡ some u)). ⊎_elim
-        (λ (y : (i ≡ id) × (both ≡ u)). subst (λ (z : ℕ × View). Knows next z.0 z.1) (λ t. (sym y.0 t, y.1 t)) both_knows)
+        (λ (y : (i ≡ id) × (both ≡ u)). subst (λ (z : ℕ × View). Knows next z.0 z.1) (λ t. (sym y.0 t, y.1 t))
+        both_knows)
         (λ (y : (i ≢ id) × (get_elem? views i ≡ some u)). rest_knows i u y.0 x.0 (h.seats i u y.1))
         (at_set views id i both u x.1))
         (at_set widened other i spent_view u is)
@@ -210,7 +216,8 @@ module _ (gains : List (Option ℕ)) (words : List ℕ) (views : List View) (id 
 
     both_counts : seats_in both ≡ suc (seats_in v + w.joined)
     both_counts =
-        ap (λ b. cond (b && not (eqb v.number 0)) 1 0 + suc (v.joined + w.joined)) (joined_live v.stand w.stand ∙ sym live)
+        ap (λ b. cond (b && not (eqb v.number 0)) 1 0 + suc (v.joined + w.joined)) (joined_live v.stand w.stand
+        ∙ sym live)
         ∙ omega arith
 
     other_counts : seats_in w ≡ suc w.joined
@@ -239,7 +246,8 @@ module _ (gains : List (Option ℕ)) (words : List ℕ) (views : List View) (id 
           words_are = h.words_are;
           few = h.few;
           gains_are = gains_kept r (JoinSeat id other) ∙ h.gains_are;
-          workers_are = workers_count (with_worker handed id into) other gone ∙ workers_count handed id into ∙ h.workers_are;
+          workers_are = workers_count (with_worker handed id into) other gone ∙ workers_count handed id into
+              ∙ h.workers_are;
           claims_are = h.claims_are;
           best_is = h.best_is;
           halves = λ j low. (
@@ -255,5 +263,6 @@ module _ (gains : List (Option ℕ)) (words : List ℕ) (views : List View) (id 
         }
 
   -- the seat takes in the other one
-  pub join_event : IsEvent gains (JoinSeat id other) words views words (set (set views id (joined_view gains v w)) other spent_view)
+  pub join_event : IsEvent gains (JoinSeat id other) words views words
+      (set (set views id (joined_view gains v w)) other spent_view)
   join_event r sound h = (join_allowed r sound h, joining_shows r sound h)

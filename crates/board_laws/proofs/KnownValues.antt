@@ -2,7 +2,8 @@
 use Rattle.std.proofs.Common.{◌≡◌, ℕ, true, false, List, [], ◌∷◌, Option, Some, None, refl}
 use Rattle.round_core.specs.declared.parts.Fate.TheVariants.{Open, Offered, Beaten}
 use Rattle.board_laws.specs.Indexes.{index_key, index_of, length_of, better, is_beaten_by}
-use Rattle.board_laws.specs.Views.{owned, marked, opening_view, spent_view, splitting_view, fresh_view, joined_view, taking_view, finished_view, claimed_view, looked_view, seats_in}
+use Rattle.board_laws.specs.Views.{owned, marked, opening_view, spent_view, splitting_view, fresh_view, joined_view}
+use Rattle.board_laws.specs.Views.{taking_view, finished_view, claimed_view, looked_view, seats_in}
 
 -- lengths 0 and 2 gain 5, length 1 nothing
 abbrev known : List (Option ℕ)

@@ -1,5 +1,7 @@
 -- A load of the best index shows as LoadBest, and loads of the halves as LoadHigh and LoadLow.
-use Rattle.std.proofs.Common.{◌≡◌, ℕ, suc, ◌<◌, ◌⊎◌, Bool, true, false, cond, eqb, ◌&&◌, ◌||◌, List, length, set, Option, Some, None, IsTrue, refl, ap, sym, ◌∙◌, subst, inl, ⊎_elim, true≢false}
+use Rattle.std.proofs.Common.{◌≡◌, ℕ, suc, ◌<◌, ◌⊎◌, Bool, true, false, cond, eqb, ◌&&◌, ◌||◌, List, length, set}
+use Rattle.std.proofs.Common.{Option, Some, None, IsTrue, refl, ap, sym, ◌∙◌, subst, inl, ⊎_elim, true≢false}
+use Rattle.std.proofs.lemmas.Bool.{or_left, or_right}
 use Rattle.atomic_table.proofs.Lists.{set_again}
 use Rattle.round_core.specs.declared.events.Event.TheVariants.{LoadBest, LoadHigh, LoadLow}
 use Rattle.round_core.specs.declared.parts.Fate.{Fate}
@@ -52,7 +54,8 @@ module _ (gains : List (Option ℕ)) (words : List ℕ) (views : List View) (id 
 
     -- the length is beaten
     beaten_shows : (k : ℕ) (f : Fate) → HasFate k f v.owned
-        → Shows gains words (set views id (record v { seen = r.best; owned = marked k Beaten v.owned })) (with_fate looking k Beaten)
+        → Shows gains words (set views id (record v { seen = r.best; owned = marked k Beaten v.owned }))
+        (with_fate looking k Beaten)
     beaten_shows k f has =
         let l : Length = record (length_at r k) { fate = Beaten } in
         let room = owned_inside gains words views id v at live r h k f has in
@@ -73,23 +76,28 @@ module _ (gains : List (Option ℕ)) (words : List ℕ) (views : List View) (id 
     pub settle_shows : (k : ℕ) (f : Fate) → HasFate k f v.owned
         → Shows gains words (set views id (looked_view gains (Some k) v r.best)) (settled looking k)
     settle_shows k f has =
-        subst (λ b. Shows gains words (set views id (looked_view gains (Some k) v r.best)) (cond b (with_fate looking k Beaten) looking))
+        subst (λ b. Shows gains words (set views id (looked_view gains (Some k) v r.best))
+        (cond b (with_fate looking k Beaten) looking))
         (sym (beaten_is gains looking h.gains_are k)) (settles_by k f has (is_beaten_by gains r.best k))
 
   -- a look
-  pub look_event : IsEvent gains (LoadBest id None) words views words (set views id (looked_view gains None v (best words)))
+  pub look_event : IsEvent gains (LoadBest id None) words views words
+      (set views id (looked_view gains None v (best words)))
   look_event r sound h = (
     both (is_live (stand_at r id)) true (live_worker gains words views id v at live r h) refl,
-    subst (λ i. Shows gains words (set views id (seeing_view v i)) (after r (LoadBest id None))) h.best_is (looking_shows r h),
+    subst (λ i. Shows gains words (set views id (seeing_view v i)) (after r (LoadBest id None))) h.best_is
+        (looking_shows r h),
   )
 
   -- a length that may be settled
   pub settle_event : (k : ℕ) → HasFate k Open v.owned ⊎ HasFate k Written v.owned
-      → IsEvent gains (LoadBest id (Some k)) words views words (set views id (looked_view gains (Some k) v (best words)))
+      → IsEvent gains (LoadBest id (Some k)) words views words
+      (set views id (looked_view gains (Some k) v (best words)))
   settle_event k has r sound h = (
     both (is_live (stand_at r id)) (owned_by id (owner_at r k) && (is_open || is_written))
         (live_worker gains words views id v at live r h) may,
-    subst (λ i. Shows gains words (set views id (looked_view gains (Some k) v i)) (after r (LoadBest id (Some k)))) h.best_is
+    subst (λ i. Shows gains words (set views id (looked_view gains (Some k) v i)) (after r (LoadBest id (Some k))))
+        h.best_is
         (⊎_elim (λ x. settle_shows r h k Open x) (λ x. settle_shows r h k Written x) has),
   ) where
     is_open : Bool
@@ -97,13 +105,6 @@ module _ (gains : List (Option ℕ)) (words : List ℕ) (views : List View) (id 
 
     is_written : Bool
     is_written = is_fate (length_at r k).fate Written
-
-    or_left : (a b : Bool) → a ≡ true → (a || b) ≡ true
-    or_left a b e = ap (λ x. x || b) e
-
-    or_right : (a b : Bool) → b ≡ true → (a || b) ≡ true
-    or_right true b e = refl
-    or_right false b e = e
 
     may : IsTrue (owned_by id (owner_at r k) && (is_open || is_written))
     may = ⊎_elim

@@ -1,5 +1,6 @@
 -- A step that gives one length of its seat another fate.
-use Rattle.std.proofs.Common.{◌≡◌, ◌≢◌, ℕ, ◌<◌, true, List, length, set, Option, Some, IsTrue, refl, ap, sym, ◌∙◌, subst, inl, inr, ⊎_elim, true≢false}
+use Rattle.std.proofs.Common.{◌≡◌, ◌≢◌, ℕ, ◌<◌, true, List, length, set, Option, Some, IsTrue, refl, ap, sym, ◌∙◌}
+use Rattle.std.proofs.Common.{subst, inl, inr, ⊎_elim, true≢false}
 use Rattle.std.proofs.lemmas.List.Elements.{All-contains}
 use Rattle.std.proofs.lemmas.Option.{same_Some}
 use Rattle.round_core.specs.declared.parts.Fate.{Fate}
@@ -36,7 +37,8 @@ module _ (gains : List (Option ℕ)) (words : List ℕ) (views : List View) (id 
   pub owner_test : (k : ℕ) (f : Fate) → HasFate k f v.owned → IsTrue (owned_by id (owner_at r k))
   owner_test k f has = ap (owned_by id) (owns_of k f has).0 ∙ equal_itself id
 
-  pub fate_test : (k : ℕ) (f : Fate) → HasFate k f v.owned → is_fate f f ≡ true → IsTrue (is_fate (length_at r k).fate f)
+  pub fate_test : (k : ℕ) (f : Fate) → HasFate k f v.owned → is_fate f f ≡ true →
+      IsTrue (is_fate (length_at r k).fate f)
   fate_test k f has same = ap (λ x. is_fate x f) (owns_of k f has).1 ∙ same
 
   -- the worker is live

@@ -1,11 +1,15 @@
 -- Which index beats which, by the keys of the lengths, and a number that rises with the key.
-use Rattle.std.proofs.Common.{◌≡◌, ℕ, zero, suc, ◌+◌, ◌-◌, ◌*◌, ◌<◌, Bool, true, false, eqb, ltb, ◌&&◌, ◌||◌, List, Option, Some, None, IsTrue, is_none, option_map, refl, ap, sym, ◌∙◌, subst, arith, ⊎_elim, true≢false}
+use Rattle.std.proofs.Common.{◌≡◌, ℕ, zero, suc, ◌+◌, ◌-◌, ◌*◌, ◌<◌, true, false, eqb, ltb, ◌&&◌, ◌||◌, List, Option}
+use Rattle.std.proofs.Common.{Some, None, IsTrue, is_none, option_map, refl, ap, sym, ◌∙◌, subst, arith, ⊎_elim}
+use Rattle.std.proofs.Common.{true≢false}
 use Rattle.std.proofs.lemmas.Bool.Decides.{nat_tests}
+use Rattle.std.proofs.lemmas.Bool.{or_right}
 use Rattle.run_theory.specs.declared.Key.{Key}
 use Rattle.run_theory.specs.Keys.{beaten, IsNoWorse}
 use Rattle.round_core.specs.declared.parts.Length.{Length}
 use Rattle.round_core.specs.declared.parts.Fate.TheVariants.{Offered}
-use Rattle.round_core.specs.Rounds.{Round, unclaimed, length_at, gain_at, fate_at, key_at, outranks, index_beats, gains_of}
+use Rattle.round_core.specs.Rounds.{Round, unclaimed, length_at, gain_at, fate_at, key_at, outranks, index_beats}
+use Rattle.round_core.specs.Rounds.{gains_of}
 use Rattle.round_core.specs.Steps.{is_beaten}
 use Rattle.round_core.specs.Sound.{NamesOffered, HoldsGain, HoldsHigh, IsSound}
 use Rattle.round_core.proofs.Places.{get_map}
@@ -15,7 +19,8 @@ use Rattle.board_laws.specs.Indexes.{gain_of, length_key, index_key, IsIndex, Is
 
 module _ (gains : List (Option ℕ)) (r : Round) (same : gains_of r ≡ gains) where
   pub gain_is : (k : ℕ) → gain_at r k ≡ gain_of gains k
-  gain_is k = sym (get_map (λ (l : Length). l.gain) r.lengths k (unclaimed None) None refl) ∙ ap (λ gs. gain_of gs k) same
+  gain_is k = sym (get_map (λ (l : Length). l.gain) r.lengths k (unclaimed None) None refl)
+      ∙ ap (λ gs. gain_of gs k) same
 
   key_is : (k : ℕ) → key_at r k ≡ length_key gains k
   key_is k = ap (option_map (λ g. record { gain = g; k = k })) (gain_is k)
@@ -26,7 +31,8 @@ module _ (gains : List (Option ℕ)) (r : Round) (same : gains_of r ≡ gains) w
 
   pub beats_index : (i j : ℕ) → IsIndex gains i → index_beats r i j ≡ outranks (index_key gains i) (index_key gains j)
   beats_index zero j index = refl
-  beats_index (suc i) zero index = sym (ap (λ o. outranks (option_map (λ g. record { gain = g; k = i }) o) None) index.1)
+  beats_index (suc i) zero index = sym (ap (λ o. outranks (option_map (λ g. record { gain = g; k = i }) o) None)
+      index.1)
   beats_index (suc i) (suc j) index = beats_length (suc i) j
 
   pub beaten_is : (k : ℕ) → is_beaten r k ≡ is_beaten_by gains r.best k
@@ -48,21 +54,6 @@ pub no_worse : (a b : Option Key) → outranks a b ≡ false → IsNoWorse a b
 no_worse None b e = tt
 no_worse (Some a) None e = absurd (true≢false e)
 no_worse (Some a) (Some b) e = e
-
-pub no_worse_itself : (a : Option Key) → IsNoWorse a a
-no_worse_itself None = tt
-no_worse_itself (Some a) = not_itself a.gain a.k where
-  not_itself : (g k : ℕ) → (ltb g g || (eqb g g && ltb k k)) ≡ false
-  not_itself g k = grind (arith, nat_tests)
-
-pub no_worse_through : (a b c : Option Key) → IsNoWorse a b → IsNoWorse b c → IsNoWorse a c
-no_worse_through None b c p q = tt
-no_worse_through (Some a) None c p q = absurd p
-no_worse_through (Some a) (Some b) None p q = absurd q
-no_worse_through (Some a) (Some b) (Some c) p q = onward a.gain b.gain c.gain a.k b.k c.k p q where
-  onward : (g h i k j l : ℕ) → (ltb h g || (eqb g h && ltb k j)) ≡ false → (ltb i h || (eqb h i && ltb j l)) ≡ false
-      → (ltb i g || (eqb g i && ltb k l)) ≡ false
-  onward g h i k j l p q = grind (arith, nat_tests)
 
 -- what beats a key is no worse
 pub no_worse_above : (a b : Option Key) → IsTrue (outranks b a) → IsNoWorse a b
@@ -107,13 +98,10 @@ pub outdone_settles : (gains : List (Option ℕ)) (k i j : ℕ) → IsOutdone ga
 outdone_settles gains k i j outdone later = ⊎_elim
     (λ none. λ t. is_none (none t) || outranks (index_key gains j) (length_key gains k))
     (λ (o : (key : Key) × (length_key gains k ≡ Some key) × IsTrue (beaten key (index_key gains i))).
-    either (is_none (gain_of gains k)) (outranks (index_key gains j) (length_key gains k))
+    or_right (is_none (gain_of gains k)) (outranks (index_key gains j) (length_key gains k))
     (beats_before (index_key gains i) (index_key gains j) (length_key gains k)
     (ap (outranks (index_key gains i)) o.1 ∙ outranks-beaten o.0 (index_key gains i) ∙ o.2) later))
-    outdone where
-      either : (a b : Bool) → b ≡ true → (a || b) ≡ true
-      either true b e = refl
-      either false b e = e
+    outdone
 
 -- ---- a number for each key
 

@@ -1,6 +1,6 @@
 -- An event after allowed events leads on: what a step does to a board.
 use Rattle.std.proofs.Common.{◌≡◌, ℕ, cond, List, [], ◌∷◌, ◌++◌, Option, Some, None, IsTrue, ap, sym, ◌∙◌, subst, arith}
-use Rattle.std.proofs.lemmas.Option.{same_Some}
+use Rattle.std.proofs.lemmas.Option.{same_Some, none-some}
 use Rattle.round_core.specs.declared.events.Event.{Event}
 use Rattle.round_core.specs.Rounds.{Round, first_round}
 use Rattle.round_core.specs.Allowed.{is_allowed}
@@ -9,9 +9,6 @@ use Rattle.round_core.specs.Sound.{IsSound}
 use Rattle.round_core.proofs.Ends.{reached}
 use Rattle.board_laws.specs.declared.views.View.{View}
 use Rattle.board_laws.specs.Boards.{IsReached, Shows, IsBoard, IsEvent}
-
-none_some : (r : Round) → None ≡ Some r → ⊥
-none_some r e = cc
 
 -- where an event is allowed, it is the step
 step_is : (r : Round) (e : Event) → IsTrue (is_allowed r e) → step r e ≡ Some (after r e)
@@ -28,7 +25,7 @@ steps-push (x ∷ xs) r end e is may = by (λ next q. steps-push xs next end e q
   by : ((next : Round) → steps next xs ≡ Some end → steps next (xs ++ e ∷ []) ≡ Some (after end e))
       → (o : Option Round) → elim o [ None ↦ None | Some next ↦ steps next xs ] ≡ Some end
       → elim o [ None ↦ None | Some next ↦ steps next (xs ++ e ∷ []) ] ≡ Some (after end e)
-  by on None q = absurd (none_some end q)
+  by on None q = absurd (none-some end q)
   by on (Some next) q = on next q
 
 -- what allowed events lead to is sound

@@ -1,10 +1,12 @@
 -- A seat that is split off shows as SplitSeat.
-use Rattle.std.proofs.Common.{◌≡◌, ◌≢◌, ℕ, suc, ◌+◌, ◌<◌, true, cond, ltb, not, List, [], ◌∷◌, ◌++◌, length, set, Option, IsTrue, sum_by, refl, ap, sym, ◌∙◌, subst, arith, inl, ⊎_elim, true≢false, ne_eqb, length-set, length-append}
+use Rattle.std.proofs.Common.{◌≡◌, ◌≢◌, ℕ, suc, ◌+◌, ◌<◌, true, cond, ltb, not, List, [], ◌∷◌, ◌++◌, length, set}
+use Rattle.std.proofs.Common.{Option, IsTrue, sum_by, refl, ap, sym, ◌∙◌, subst, arith, inl, ⊎_elim, true≢false, ne_eqb}
+use Rattle.std.proofs.Common.{length-set, length-append}
 use Rattle.std.proofs.lemmas.List.Elements.{All-nil}
 use Rattle.std.proofs.lemmas.List.Sums.{sum_by_push}
 use Rattle.std.proofs.lemmas.Bool.Decides.{nat_tests}
 use Rattle.round_core.specs.declared.events.Event.TheVariants.{SplitSeat}
-use Rattle.round_core.specs.declared.parts.Stand.TheVariants.{Working, Joined}
+use Rattle.round_core.specs.declared.parts.Stand.TheVariants.{Working}
 use Rattle.round_core.specs.declared.parts.Worker.{Worker}
 use Rattle.round_core.specs.Rounds.{Round, worker_at, stand_at, seen_at}
 use Rattle.round_core.specs.Allowed.{is_live, is_absent, is_allowed}
@@ -18,9 +20,7 @@ use Rattle.board_laws.specs.Boards.{IsSeat, Owns, Knows, Shows, IsEvent}
 use Rattle.board_laws.proofs.Seats.{place_within, place_push, sum-set, sum-first}
 use Rattle.board_laws.proofs.Frames.{all_three, knows_else, each_knows}
 use Rattle.board_laws.proofs.Marks.{know, live_worker}
-
-working_not_joined : Working ≡ Joined → ⊥
-working_not_joined e = cc
+use Rattle.board_laws.proofs.Claims.{working_not_joined}
 
 -- what the opening seat made is what all seats made
 pub made_total : (gains : List (Option ℕ)) (words : List ℕ) (views : List View) (r : Round) (v : View)
@@ -137,7 +137,8 @@ module _ (gains : List (Option ℕ)) (words : List ℕ) (views : List View) (id 
               (λ j y _ there. knows_still j y there) i u s)
               (λ s. subst (λ (y : ℕ × View). Knows next y.0 y.1) (λ t. (sym (s.0 ∙ split_count) t, s.1 t)) fresh_knows)
               (place_push split (fresh_view v) u i is);
-          absent = λ i past. ap (λ (s : Worker). s.stand) (worker_else r fresh i added (λ q. absurd (omega (arith, q, past, p))))
+          absent = λ i past. ap (λ (s : Worker). s.stand) (worker_else r fresh i added
+              (λ q. absurd (omega (arith, q, past, p))))
               ∙ h.absent i (let n = count in omega (arith, past, p, n));
           counted = omega (arith, a, b, c, d, e, f);
           numbers = omega (arith, p, a, b, t);

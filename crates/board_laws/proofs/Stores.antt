@@ -1,5 +1,6 @@
 -- The stores of the halves of a gain show as StoreHigh and StoreLow.
-use Rattle.std.proofs.Common.{◌≡◌, ◌≢◌, ℕ, ◌+◌, ◌*◌, ◌/◌, ◌%◌, ◌^◌, ◌<◌, List, length, set, slice_index, Option, Some, IsTrue, is_some, refl, ap, sym, ◌∙◌, arith, length-set, get_or-set_same, get_or-set_other}
+use Rattle.std.proofs.Common.{◌≡◌, ◌≢◌, ℕ, ◌+◌, ◌*◌, ◌/◌, ◌%◌, ◌^◌, ◌<◌, List, length, set, slice_index, Option, Some}
+use Rattle.std.proofs.Common.{IsTrue, is_some, refl, ap, sym, ◌∙◌, arith, length-set, get_or-set_same, get_or-set_other}
 use Rattle.round_core.specs.declared.events.Event.TheVariants.{StoreHigh, StoreLow}
 use Rattle.round_core.specs.declared.parts.Fate.{Fate}
 use Rattle.round_core.specs.declared.parts.Fate.TheVariants.{Open, HalfWritten, Written}
@@ -34,7 +35,8 @@ module _ (gains : List (Option ℕ)) (words : List ℕ) (views : List View) (id 
       word_else i other = get_or-set_other words j i n 0 other
 
       saw_still : worker_at r id ≡ record (worker_at r id) { seen = v.seen }
-      saw_still = ap (λ i. record (worker_at r id) { seen = i }) (sym ((know gains words views id v at live r h).sees live))
+      saw_still = ap (λ i. record (worker_at r id) { seen = i })
+          (sym ((know gains words views id v at live r h).sees live))
 
       store_shows : (l.high ≡ high stored k) × (l.low ≡ low stored k)
           → ((i : ℕ) → i ≢ k → (high stored i ≡ high words i) × (low stored i ≡ low words i))
@@ -52,7 +54,8 @@ module _ (gains : List (Option ℕ)) (words : List ℕ) (views : List View) (id 
 
   -- the high half
   pub store_high_event : (k g : ℕ) → HasFate k Open v.owned → gain_of gains k ≡ Some g
-      → IsEvent gains (StoreHigh id k) words views (set words (2 + 2 * k) (g / 2 ^ 64)) (set views id (marked_view k HalfWritten v))
+      → IsEvent gains (StoreHigh id k) words views (set words (2 + 2 * k) (g / 2 ^ 64))
+      (set views id (marked_view k HalfWritten v))
   store_high_event k g has gain r sound h =
       let l : Length = record (length_at r k) { fate = HalfWritten; high = high_half (gain_at r k) } in
       let room = owned_within gains words views id v at live r h k Open has in
@@ -66,12 +69,16 @@ module _ (gains : List (Option ℕ)) (words : List ℕ) (views : List View) (id 
           ap high_half is ∙ sym (get_or-set_same words (2 + 2 * k) (g / 2 ^ 64) 0 (omega (arith, long))),
           (h.halves k room).1 ∙ sym (else (3 + 2 * k) (λ e. absurd (omega (arith, e)))),
         )
-            (λ i other. (else (2 + 2 * i) (λ e. other (omega (arith, e))), else (3 + 2 * i) (λ e. absurd (omega (arith, e))))),
+            (λ i other. (
+              else (2 + 2 * i) (λ e. other (omega (arith, e))),
+              else (3 + 2 * i) (λ e. absurd (omega (arith, e))),
+            )),
       )
 
   -- the low half
   pub store_low_event : (k g : ℕ) → HasFate k HalfWritten v.owned → gain_of gains k ≡ Some g
-      → IsEvent gains (StoreLow id k) words views (set words (3 + 2 * k) (g % 2 ^ 64)) (set views id (marked_view k Written v))
+      → IsEvent gains (StoreLow id k) words views (set words (3 + 2 * k) (g % 2 ^ 64))
+      (set views id (marked_view k Written v))
   store_low_event k g has gain r sound h =
       let l : Length = record (length_at r k) { fate = Written; low = low_half (gain_at r k) } in
       let room = owned_within gains words views id v at live r h k HalfWritten has in
@@ -85,5 +92,8 @@ module _ (gains : List (Option ℕ)) (words : List ℕ) (views : List View) (id 
           (h.halves k room).0 ∙ sym (else (2 + 2 * k) (λ e. absurd (omega (arith, e)))),
           ap low_half is ∙ sym (get_or-set_same words (3 + 2 * k) (g % 2 ^ 64) 0 (omega (arith, long))),
         )
-            (λ i other. (else (2 + 2 * i) (λ e. absurd (omega (arith, e))), else (3 + 2 * i) (λ e. other (omega (arith, e))))),
+            (λ i other. (
+              else (2 + 2 * i) (λ e. absurd (omega (arith, e))),
+              else (3 + 2 * i) (λ e. other (omega (arith, e))),
+            )),
       )

@@ -1,8 +1,10 @@
 -- What a step tells its seat, beyond what its view shows.
-use Rattle.std.proofs.Common.{◌≡◌, ◌≢◌, ℕ, zero, suc, ◌/◌, ◌%◌, ◌^◌, ◌<◌, ◌≤◌, false, List, length, Option, Some, IsTrue, refl, ap, sym, ◌∙◌, subst, arith}
+use Rattle.std.proofs.Common.{◌≡◌, ◌≢◌, ℕ, zero, suc, ◌/◌, ◌%◌, ◌^◌, ◌<◌, ◌≤◌, false, List, length, Option, Some}
+use Rattle.std.proofs.Common.{IsTrue, refl, ap, sym, ◌∙◌, subst, arith}
 use Rattle.run_theory.specs.Keys.{IsNoWorse}
 use Rattle.round_core.specs.declared.parts.Fate.TheVariants.{Written, Offered}
-use Rattle.round_core.specs.Rounds.{Round, length_at, gain_at, fate_at, seen_at, outranks, index_beats, high_half, low_half}
+use Rattle.round_core.specs.Rounds.{Round, length_at, gain_at, fate_at, seen_at, outranks, index_beats, high_half}
+use Rattle.round_core.specs.Rounds.{low_half}
 use Rattle.round_core.specs.Allowed.{is_live}
 use Rattle.round_core.specs.Sound.{NamesOffered, HoldsHigh, IsSound}
 use Rattle.round_core.proofs.Bounds.{claims_few}
@@ -63,12 +65,14 @@ module _ (gains : List (Option ℕ)) (words : List ℕ) (views : List View) (r :
     pub best_above : best words ≢ v.seen → IsTrue (outranks (index_key gains (best words)) (index_key gains v.seen))
     best_above other =
         ap (λ i. outranks (index_key gains i) (index_key gains v.seen)) (sym h.best_is)
-        ∙ sym (beats_index gains r h.gains_are r.best v.seen (offered_index gains r h.gains_are sound r.best sound.best_offered))
+        ∙ sym (beats_index gains r h.gains_are r.best v.seen
+        (offered_index gains r h.gains_are sound r.best sound.best_offered))
         ∙ by r.best v.seen sound.best_offered seen_offered seen_within (λ e. other (sym h.best_is ∙ e)) where
           some_none : (k : ℕ) → fate_at r k ≡ Offered → HoldsHigh (length_at r k)
           some_none k is = (offered_holds gains r h.gains_are sound k is).0
 
-          by : (i j : ℕ) → NamesOffered r i → NamesOffered r j → index_beats r j i ≡ false → i ≢ j → IsTrue (index_beats r i j)
+          by : (i j : ℕ) → NamesOffered r i → NamesOffered r j → index_beats r j i ≡ false → i ≢ j →
+              IsTrue (index_beats r i j)
           by zero zero a b within apart = absurd (apart refl)
           by zero (suc j) a b within apart = sym within
           by (suc i) zero a b within apart = refl

@@ -1,7 +1,8 @@
 -- The board of a round: what its words and the views of its seats show of the round.
 -- Word 0 counts the claims, word 1 is the index of the best length, words 2 + 2k and 3 + 2k are the halves of the gain
 -- of length k.
-use Rattle.std.specs.Prelude.{◌≡◌, ◌≢◌, ℕ, suc, ◌+◌, ◌*◌, ◌<◌, ◌≤◌, List, length, Option, Some, All, IsTrue, slice_index, sum_by}
+use Rattle.std.specs.Prelude.{◌≡◌, ◌≢◌, ℕ, suc, ◌+◌, ◌*◌, ◌<◌, ◌≤◌, List, length, Option, Some, All, IsTrue}
+use Rattle.std.specs.Prelude.{slice_index, sum_by}
 use mathlib.Core.Option.{some}
 use lib.ListN.{get_elem?}
 use Rattle.round_core.specs.declared.events.Event.{Event}

@@ -1,5 +1,6 @@
 -- The lengths and their keys by the list of their gains. An index is 0, for none, or k + 1, for length k.
-use Rattle.std.specs.Prelude.{◌≡◌, ℕ, zero, suc, Bool, ◌||◌, ◌⊎◌, cond, List, Option, Some, None, IsTrue, is_none, slice_index_or}
+use Rattle.std.specs.Prelude.{◌≡◌, ℕ, zero, suc, Bool, ◌||◌, ◌⊎◌, cond, List, Option, Some, None, IsTrue, is_none}
+use Rattle.std.specs.Prelude.{slice_index_or}
 use Rattle.std.specs.Option.{option_map}
 use Rattle.run_theory.specs.declared.Key.{Key}
 use Rattle.run_theory.specs.Keys.{beaten}

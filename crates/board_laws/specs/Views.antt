@@ -1,5 +1,6 @@
 -- What a seat of a board knows, and how each kind of step changes it.
-use Rattle.std.specs.Prelude.{ℕ, suc, ◌+◌, ◌&&◌, not, nat_eq, nat_lt, cond, List, [], ◌∷◌, ◌++◌, map, Option, Some, None}
+use Rattle.std.specs.Prelude.{ℕ, suc, ◌+◌, ◌&&◌, not, nat_eq, nat_lt, cond, List, [], ◌∷◌, ◌++◌, map, Option, Some}
+use Rattle.std.specs.Prelude.{None}
 use Rattle.std.specs.List.{Contains}
 use Rattle.round_core.specs.declared.parts.Fate.{Fate}
 use Rattle.round_core.specs.declared.parts.Fate.TheVariants.{Open, Beaten}

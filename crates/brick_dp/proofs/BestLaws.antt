@@ -1,6 +1,6 @@
 -- The best step of one length, or none, and the answer under a bound.
 use Rattle.std.proofs.Common.{◌≡◌, ℕ, ◌+◌, ◌-◌, ℤ, pos, ◌-ℤ◌, ◌<ℤ◌, ◌≤ℤ◌, Bool, true, false, List, [], ◌∷◌, length}
-use Rattle.std.proofs.Common.{refl, ap, arith, sym, ◌∙◌, Some, None, Option, slice_get, subst, All, IsTrue}
+use Rattle.std.proofs.Common.{refl, ap, arith, sym, ◌∙◌, Some, None, Option, slice_get, subst, All, IsTrue, Contains}
 use Rattle.std.proofs.Common.{unsigned_abs, inl, inr, int_lt, cond}
 use Rattle.std.proofs.lemmas.Int.{ints}
 use Rattle.std.specs.Ordering.{int_cmp, nat_cmp, ordering_then, is_le}
@@ -22,10 +22,10 @@ use Rattle.sieve_laws.proofs.Existence.{BestOrNone, best_or_none}
 use Rattle.brick_dp.specs.Needs.{NoneGains, IsStepUnder}
 use Rattle.brick_dp.proofs.NeedLaws.{best_found}
 use Rattle.run_theory.specs.Walks.{WalkCosts}
+use Rattle.lattice_laws.proofs.Places.{same_value, contains_at}
+use Rattle.lattice_laws.proofs.Tests.{le_or_less}
 use Rattle.sieve_laws.specs.Sieve.{Layer, IsAtMost, IsLayerUnder}
 use Rattle.brick_dp.specs.Tables.{IsLayer, AreLayers, limit_at}
-use Rattle.brick_dp.proofs.ChangeLaws.{at_same}
-use Rattle.brick_dp.proofs.UnderLaws.{le_or_less}
 
 -- ---- answers
 
@@ -67,12 +67,25 @@ unbeaten f x k s bound found safe (inr (t, other, beats)) =
 
 -- ---- the first node
 
-pub zero_at : (fs : List Sum) (t at : ℕ) → All (λ w. length w ≡ t) (vectors fs) →
+-- it is as wide as all vectors are
+zero_at : (fs : List Sum) (t at : ℕ) → All (λ w. length w ≡ t) (vectors fs) →
     slice_get (vectors fs) at ≡ Some (zeros (width fs)) →
     slice_get (vectors fs) at ≡ Some (zeros t)
 zero_at [] t at widths there = absurd (cc)
 zero_at (s ∷ fs) t at widths there = let e : length s.vector ≡ t =
     widths 0 s.vector (omega arith) in there ∙ ap (λ n. Some (zeros n)) e
+
+-- where its place is kept with a list of the same sums
+pub zero_of : (fs sums : List Sum) (t at : ℕ) → All (λ w. length w ≡ t) (vectors fs) → sums ≡ fs →
+    slice_get (vectors sums) at ≡ Some (zeros (width sums)) → slice_get (vectors fs) at ≡ Some (zeros t)
+zero_of fs sums t at widths same there =
+    zero_at fs t at widths (subst (λ s. slice_get (vectors s) at ≡ Some (zeros (width s))) same there)
+
+-- so it is listed
+pub zero_listed : (fs sums : List Sum) (t at : ℕ) → All (λ w. length w ≡ t) (vectors fs) → sums ≡ fs →
+    slice_get (vectors sums) at ≡ Some (zeros (width sums)) → Contains (vectors fs) (zeros t)
+zero_listed fs sums t at widths same there =
+    contains_at (vectors fs) at (zeros t) (zero_of fs sums t at widths same there)
 
 module _ (f : FoldValue) (x : Bricks) (k : ℕ) (need : ℤ) (layers : List Layer)
     (are : AreLayers f x k (length f.program.bricks + 1) need layers)
@@ -102,7 +115,7 @@ module _ (f : FoldValue) (x : Bricks) (k : ℕ) (need : ℤ) (layers : List Laye
     | inr high ↦ high
     | inl low ↦
         let (a, here, _) = first_low h c wc low in
-        let same : Some a ≡ None = at_same (slice_get layer at) (Some a) None here cell in
+        let same : Some a ≡ None = same_value (slice_get layer at) (Some a) None here cell in
         absurd (cc)
   ]
 
@@ -113,7 +126,8 @@ module _ (f : FoldValue) (x : Bricks) (k : ℕ) (need : ℤ) (layers : List Laye
     | inr high ↦ high
     | inl low ↦
         let (a, here, less) = first_low h c wc low in
-        let same : a ≡ total = at_same (Some a) a total refl (at_same (slice_get layer at) (Some a) (Some total) here
+        let same : a ≡ total = same_value (Some a) a total refl (same_value (slice_get layer at) (Some a) (Some total)
+        here
         cell) in
         absurd (omega (arith, ints, same, less, low, above))
   ]
@@ -131,7 +145,8 @@ module _ (f : FoldValue) (x : Bricks) (k : ℕ) (need : ℤ) (layers : List Laye
         | inr high ↦ omega (arith, ints, enough, high)
         | inl low ↦
             let (a, here, less) = first_low h c wc low in
-            let same : a ≡ total = at_same (Some a) a total refl (at_same (slice_get layer at) (Some a) (Some total)
+            let same : a ≡ total = same_value (Some a) a total refl
+            (same_value (slice_get layer at) (Some a) (Some total)
             here cell) in
             omega (arith, ints, same, less)
       ]

@@ -1,20 +1,19 @@
 -- Blocks of bricks: the least changes of their moves, as they are made and when a brick gets another menu.
 use Rattle.std.proofs.Common.{◌≡◌, ◌≢◌, ℕ, ◌+◌, ◌*◌, ◌/◌, ◌<◌, ◌≤◌, ℤ, List, length, refl, ap, arith, sym, ◌∙◌, Option}
-use Rattle.std.proofs.Common.{Some}
-use Rattle.std.proofs.Common.{None, subst, get_or, ◌⊎◌, inl, inr, ◌++◌, [], ◌∷◌}
+use Rattle.std.proofs.Common.{Some, None, subst, get_or, ◌⊎◌, inl, inr, ◌++◌, [], ◌∷◌}
 use Rattle.std.specs.Prelude.{slice_get}
 use Rattle.std.proofs.lemmas.Int.{ints}
 use Rattle.std.proofs.lemmas.Bool.{cases_lt, cases_order}
 use Rattle.std.proofs.lemmas.List.{length-set, length-append}
 use Rattle.std.proofs.lemmas.Option.{slice_get_within, slice_get-get_or}
 use Rattle.std.proofs.Math.ListN.{set}
+use Rattle.lattice_laws.proofs.Places.{same_value, slice_get-push}
 use Rattle.sieve_laws.specs.declared.PricedMove.{PricedMove}
 use Rattle.sieve_laws.specs.Sieve.{Layer, Menu, IsAtMost, lesser}
-use Rattle.sieve_laws.proofs.Cells.{at_same, slice_get-set_same, slice_get-set_other}
+use Rattle.sieve_laws.proofs.Cells.{slice_get-set_same, slice_get-set_other}
 use Rattle.sieve_laws.proofs.Lowering.{lesser_kept, lesser_offer}
 use Rattle.layer_sieve.specs.Falls.{AreKept}
 use Rattle.brick_dp.specs.Blocks.{IsBelow, IsBelowAll, AreInBlocks}
-use Rattle.brick_dp.proofs.ChangeLaws.{slice_get-push}
 
 -- ---- one menu
 
@@ -48,7 +47,7 @@ below_more changes more menu n m here kept new so_far i e low there = by (cases_
     by (inl before) = at_most_kept changes more e.place e.change kept (so_far i e before there)
     by (inr high) =
         let last : n ≡ i = omega (arith, low, high) in
-        let same : m ≡ e = at_same (slice_get menu n) m e here (ap (slice_get menu) last ∙ there) in
+        let same : m ≡ e = same_value (slice_get menu n) m e here (ap (slice_get menu) last ∙ there) in
         subst (λ (m : PricedMove). IsAtMost more m.place m.change) same new
 
 pub below_all : (changes : Layer) (menu : Menu) (n : ℕ) → length menu ≤ n → IsBelowUpTo changes menu n →
@@ -85,7 +84,7 @@ lowered_cell changes h first new c inside is =
         by : (w ≡ h) ⊎ ((w < h) ⊎ (h < w)) → IsAtMost (set changes h (lesser old (Some c))) w b
         by (inl same) =
             let was : old ≡ Some b =
-            at_same (slice_get changes h) old (Some b) here (ap (slice_get changes) (sym same) ∙ there) in
+            same_value (slice_get changes h) old (Some b) here (ap (slice_get changes) (sym same) ∙ there) in
             let (a, e, less) = lesser_kept b (Some c) in
             let cell : lesser old (Some c) ≡ Some a = ap (λ o. lesser o (Some c)) was ∙ e in
             (a, ap (slice_get (set changes h (lesser old (Some c)))) same ∙ now ∙ ap Some cell, less)
@@ -107,7 +106,7 @@ block_more menus from at changes more menu here kept new so_far i other high low
         at_most_kept changes more m.place m.change kept (so_far i other high before there j m move)
     by (inr behind) =
         let last : at ≡ i = omega (arith, low, behind) in
-        let same : menu ≡ other = at_same (slice_get menus at) menu other here (ap (slice_get menus) last ∙ there) in
+        let same : menu ≡ other = same_value (slice_get menus at) menu other here (ap (slice_get menus) last ∙ there) in
         subst (λ (m : Menu). IsBelow more m) same new
 
 -- behind the last brick there is none
@@ -152,7 +151,7 @@ blocks_more menus blocks more n changes new is so_far = record {
     by block other (inl before) = so_far.each block other before
     by block other (inr last) =
         let place : n ≡ block = sym (last.0 ∙ so_far.count) in
-        let same : changes ≡ other = at_same (Some changes) changes other refl last.1 in
+        let same : changes ≡ other = same_value (Some changes) changes other refl last.1 in
         subst (λ b. IsBelowAll menus (16 * b) (16 * b + 16) other) place
         (subst (IsBelowAll menus (16 * n) (16 * n + 16)) same new)
 
@@ -200,7 +199,8 @@ blocks_set menus more blocks others n kept size is outside new are = record {
         let here : slice_get (set blocks n kept) n ≡ Some (Some changes) =
         ap (slice_get (set blocks n kept)) (sym same) ∙ there in
         let known : kept ≡ Some changes =
-        at_same (slice_get (set blocks n kept) n) kept (Some changes) (slice_get-set_same blocks n kept inside) here in
+        same_value (slice_get (set blocks n kept) n) kept (Some changes) (slice_get-set_same blocks n kept inside)
+        here in
         subst (λ b. IsBelowAll more (16 * b) (16 * b + 16) changes) (sym same) (new changes known)
     by block changes there (inr (inl before)) = apart block changes there (λ e. omega (arith, before, e))
     by block changes there (inr (inr behind)) = apart block changes there (λ e. omega (arith, behind, e))
@@ -226,6 +226,6 @@ pub blocks_known : (menus : List Menu) (blocks : List (Option Layer)) (n : ℕ) 
     AreInBlocks menus (set blocks n (Some changes))
 blocks_known menus blocks n changes below are =
     blocks_set menus menus blocks (set blocks n (Some changes)) n (Some changes) refl refl (λ i menu side there. there)
-    (λ other same. subst (IsBelowAll menus (16 * n) (16 * n + 16)) (at_same (Some changes) changes other refl same)
+    (λ other same. subst (IsBelowAll menus (16 * n) (16 * n + 16)) (same_value (Some changes) changes other refl same)
     below)
     are

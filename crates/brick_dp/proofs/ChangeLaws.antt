@@ -1,7 +1,7 @@
 -- What the moves of a brick change its cost by, one move after the other.
-use Rattle.std.proofs.Common.{◌≡◌, ℕ, zero, suc, ◌≤◌, ℤ, ◌-ℤ◌, ◌≤ℤ◌, unsigned_abs, List, [], ◌∷◌, ◌++◌, length, refl}
-use Rattle.std.proofs.Common.{ap, arith, sym, ◌∙◌, Some, None, Option, slice_get, subst, All, ◌⊎◌, inl, inr, pos, ◌^◌}
-use Rattle.std.proofs.lemmas.Option.{slice_get_within, get_or_from_slice_get}
+use Rattle.std.proofs.Common.{◌≡◌, ℕ, ◌≤◌, ℤ, ◌-ℤ◌, ◌≤ℤ◌, unsigned_abs, List, length, ap, arith, sym, ◌∙◌, Some, None}
+use Rattle.std.proofs.Common.{Option, slice_get, subst, All, pos, ◌^◌}
+use Rattle.std.proofs.lemmas.Option.{slice_get_within, get_or_from_slice_get, same_Some}
 use Rattle.std.proofs.lemmas.Int.{ints}
 use Rattle.std.specs.Prelude.{Vec}
 use Rattle.std.specs.declared.alloc.Global.{Global}
@@ -10,28 +10,13 @@ use Rattle.fold_theory.specs.declared.Phase.TheVariants.{Closed}
 use Rattle.lattice_theory.specs.Vectors.{Vector, scale}
 use Rattle.lattice_laws.proofs.Conformal.{length-add}
 use Rattle.lattice_laws.proofs.Multiples.{length-scale}
+use Rattle.lattice_laws.proofs.Places.{same_value}
 use Rattle.fold_theory.specs.Programs.{Program, Brick, brick_cost}
 use Rattle.fold_program.specs.Places.{OfBrick}
 use Rattle.fold_program.specs.Refusals.{brick_magnitude, total_magnitude}
+use Rattle.fold_program.proofs.PlaceLaws.{small_in_total}
 use Rattle.step_targets.specs.Targets.{after, AreBetween, Leads}
 use Rattle.brick_dp.specs.Changes.{IsChange}
-use Rattle.brick_dp.proofs.CostLaws.{same_brick, small_in_total}
-
-module _ {A : Type 0} where
-  some_is : (a b : A) → Some a ≡ Some b → a ≡ b
-  some_is a b e = cc
-
-  -- what stands at a place after one more element
-  pub slice_get-push : (xs : List A) (x y : A) (j : ℕ) → slice_get (xs ++ x ∷ []) j ≡ Some y →
-      (slice_get xs j ≡ Some y) ⊎ ((j ≡ length xs) × (x ≡ y))
-  slice_get-push [] x y zero e = inr (refl, some_is x y e)
-  slice_get-push [] x y (suc j) e = absurd (cc)
-  slice_get-push (z ∷ xs) x y zero e = inl e
-  slice_get-push (z ∷ xs) x y (suc j) e =
-      elim (slice_get-push xs x y j e) [ inl before ↦ inl before | inr last ↦ inr (ap suc last.0, last.1) ]
-
-  pub at_same : (o : Option A) (a b : A) → o ≡ Some a → o ≡ Some b → a ≡ b
-  at_same o a b p q = cc
 
 pub sized_at : (zs : List Vector) (t : ℕ) (i : ℕ) (w : Vector) → All (λ z. length z ≡ t) zs → slice_get zs i ≡ Some w →
     length w ≡ t
@@ -46,7 +31,7 @@ pub led_to : (lower upper end : Vector) (o : Option (Vec ℤ Global)) (v : Vec �
     o ≡ Some v → AreBetween lower upper end × (v.items ≡ end)
 led_to lower upper end None v h e = absurd (cc)
 led_to lower upper end (Some u) v h e =
-    let same : u ≡ v = some_is u v e in
+    let same : u ≡ v = same_Some u v e in
     (h.0, sym (ap (λ (w : Vec ℤ Global). w.items) same) ∙ h.1)
 
 -- the change of a move, from the costs before and after
@@ -64,15 +49,15 @@ closed_change p i k v d end lower upper after_cost before_cost lowers uppers bet
         (
           subst (λ l. AllZip ◌≤ℤ◌ l (after k v d)) lowers.2 between.0,
           subst (λ u. AllZip ◌≤ℤ◌ (after k v d) u)
-              (uppers.2 ∙ ap (λ (c : Brick). c.upper) (same_brick _ uppers.0 b uppers.1 lowers.1)) between.1,
+              (uppers.2 ∙ ap (λ (c : Brick). c.upper) (same_value _ uppers.0 b uppers.1 lowers.1)) between.1,
         ),
         λ k. after_here k -ℤ before_here k,
         omega (
           arith,
           ints,
-          ap brick_magnitude (same_brick _ after_low.0 b after_low.1 lowers.1),
+          ap brick_magnitude (same_value _ after_low.0 b after_low.1 lowers.1),
           after_low.2,
-          ap brick_magnitude (same_brick _ before_low.0 b before_low.1 lowers.1),
+          ap brick_magnitude (same_value _ before_low.0 b before_low.1 lowers.1),
           before_low.2,
         ),
       ),
@@ -82,11 +67,11 @@ closed_change p i k v d end lower upper after_cost before_cost lowers uppers bet
     b = lowers.0
 
     after_here : after_cost ≡ brick_cost b (after k v d)
-    after_here = after_is.2 ∙ ap (λ c. brick_cost c end) (same_brick _ after_is.0 b after_is.1 lowers.1)
+    after_here = after_is.2 ∙ ap (λ c. brick_cost c end) (same_value _ after_is.0 b after_is.1 lowers.1)
         ∙ ap (brick_cost b) led
 
     before_here : before_cost ≡ brick_cost b v
-    before_here = before_is.2 ∙ ap (λ c. brick_cost c v) (same_brick _ before_is.0 b before_is.1 lowers.1)
+    before_here = before_is.2 ∙ ap (λ c. brick_cost c v) (same_value _ before_is.0 b before_is.1 lowers.1)
 
 -- such a change fits
 pub change_fits : (p : Program) (i : ℕ) (a b : ℤ) → total_magnitude p ≤ 2 ^ 120 →

@@ -1,21 +1,23 @@
 -- What filling the layers stands on: points within the bounds, how large the numbers become, the last layer, and what
 -- a layer needs of the brick before it.
-use Rattle.std.proofs.Common.{◌≡◌, ℕ, zero, suc, ◌+◌, ◌^◌, ◌<◌, ◌≤◌, ℤ, unsigned_abs, List, [], ◌∷◌, ◌++◌, length, drop}
+use Rattle.std.proofs.Common.{◌≡◌, ℕ, zero, suc, ◌^◌, ◌<◌, ◌≤◌, ℤ, unsigned_abs, List, [], ◌∷◌, ◌++◌, length, drop}
 use Rattle.std.proofs.Common.{take, append-nil, sum_by, refl, ap, arith, sym, ◌∙◌, Some, None, Option, slice_get, subst}
-use Rattle.std.proofs.Common.{All, get_or, Contains, replicate}
+use Rattle.std.proofs.Common.{All, replicate}
 use Rattle.std.proofs.lemmas.Int.{ints}
 use Rattle.std.proofs.lemmas.List.{drop_all, take_all, length-replicate}
 use Rattle.std.proofs.lemmas.List.Sums.{sum_by-take-drop}
-use Rattle.std.proofs.lemmas.Option.{slice_get_within, get_or_from_slice_get, slice_get-get_or}
-use Rattle.std.proofs.Math.Seq.{drop-cons}
+use Rattle.std.proofs.lemmas.Option.{slice_get_within, get_or_from_slice_get}
 use Rattle.lattice_theory.specs.Vectors.{Vector, zeros}
 use Rattle.lattice_theory.specs.SignedSums.{vectors}
 use Rattle.fold_theory.specs.Programs.{Program, IsProgram, Brick, Bricks, IsWithin, AreWithin, link_rests}
 use Rattle.fold_program.specs.Points.{HasPointShape}
 use Rattle.fold_program.specs.Refusals.{brick_magnitude, total_magnitude}
+use Rattle.fold_program.proofs.PointLaws.{shape_of}
+use Rattle.fold_program.proofs.PlaceLaws.{brick_in_total}
 use Rattle.run_theory.specs.Folds.{FoldValue}
-use Rattle.walk_laws.proofs.Candidates.{widths_within}
 use Rattle.run_theory.specs.Walks.{WalkCosts}
+use Rattle.lattice_laws.proofs.Places.{same_value, contains_at, place_of, there_at}
+use Rattle.fold_laws.proofs.Points.{within_at}
 use Rattle.walk_laws.proofs.BestWalks.{IsLeastWalk, least_end}
 use Rattle.sieve_laws.specs.Sieve.{Layer, Menu, MayStay, AreTops, IsAtMost, live}
 use Rattle.sieve_laws.proofs.Rows.{may_stay}
@@ -24,45 +26,6 @@ use Rattle.layer_sieve.specs.Reaching.{AreAtMost, IsFair}
 use Rattle.brick_dp.specs.Ends.{IsLastLayer}
 use Rattle.brick_dp.specs.Menus.{IsBrickMenu, AreMenus}
 use Rattle.brick_dp.specs.Tables.{most_from, CostsFrom, IsLayer}
-use Rattle.brick_dp.proofs.ChangeLaws.{at_same}
-use Rattle.brick_dp.proofs.CostLaws.{brick_in_total}
-
--- ---- points within the bounds
-
-pub length-within : (bs : List Brick) (x : Bricks) → AreWithin bs x → length x ≡ length bs
-length-within [] [] within = refl
-length-within [] (v ∷ x) within = absurd within
-length-within (b ∷ bs) [] within = absurd within
-length-within (b ∷ bs) (v ∷ x) within = ap suc (length-within bs x within.1)
-
-pub shape_of : (p : Program) (x : Bricks) → IsProgram p → AreWithin p.bricks x → HasPointShape p x
-shape_of p x program within = record {
-  bricks = length-within p.bricks x within;
-  widths = widths_within p.link.cols (length p.brick.rows) p.bricks x program.each_brick within;
-}
-
-pub within_at : (bs : List Brick) (x : Bricks) (i : ℕ) (b : Brick) (v : Vector) → AreWithin bs x →
-    slice_get bs i ≡ Some b → slice_get x i ≡ Some v → IsWithin b v
-within_at [] x i b v within brick at = absurd (cc)
-within_at (c ∷ bs) [] i b v within brick at = absurd within
-within_at (c ∷ bs) (u ∷ x) zero b v within brick at =
-    let first : c ≡ b = cc in
-    let second : u ≡ v = cc in
-    subst (λ d. IsWithin d v) first (subst (IsWithin c) second within.0)
-within_at (c ∷ bs) (u ∷ x) (suc i) b v within brick at = within_at bs x i b v within.1 brick at
-
--- ---- lists
-
-pub there_at : {A : Type 0} (xs : List A) (i : ℕ) → i < length xs → (x : A) × (slice_get xs i ≡ Some x)
-there_at [] i low = absurd (omega arith)
-there_at (x ∷ xs) i low = (get_or (x ∷ xs) i x, slice_get-get_or (x ∷ xs) i x low)
-
-pub drop_here : {A : Type 0} (xs : List A) (k : ℕ) (x : A) → slice_get xs k ≡ Some x → drop k xs ≡ x ∷ drop (k + 1) xs
-drop_here xs k x e =
-    let low = slice_get_within xs k x e in
-    let next : suc k ≡ k + 1 = omega arith in
-    drop-cons xs k x low ∙ ap (λ n. get_or xs k x ∷ drop n xs) next ∙ ap (λ y. y ∷ drop (k + 1) xs)
-    (get_or_from_slice_get xs k x x e)
 
 -- ---- how large the numbers in the layers become
 
@@ -93,13 +56,6 @@ fair_menu f k i b v menu most brick is j m low =
 
 -- ---- a listed vector
 
--- stands at some place
-pub place_of : (vs : List Vector) (v : Vector) → Contains vs v → (j : ℕ) × (slice_get vs j ≡ Some v)
-place_of vs v (j, low, e) = (j, slice_get-get_or vs j v low ∙ ap Some e)
-
-pub listed : (vs : List Vector) (j : ℕ) (v : Vector) → slice_get vs j ≡ Some v → Contains vs v
-listed vs j v there = (j, slice_get_within vs j v there, get_or_from_slice_get vs j v v there)
-
 -- no cell of a layer is more than walks cost
 pub cells_small : (f : FoldValue) (x : Bricks) (k i : ℕ) (need : ℤ) (layer : Layer) → IsLayer f x k i need layer →
     AreAtMost (most_from f.program i) layer
@@ -107,7 +63,7 @@ cells_small f x k i need layer is j a there =
     let (w, here) = there_at (vectors f.sums) j (omega (arith, is.under.size, slice_get_within layer j (Some a) there))
     in
     let (h, walk) = is.under.walks j w a here there in
-    is.small w h a (listed (vectors f.sums) j w here) walk
+    is.small w h a (contains_at (vectors f.sums) j w here) walk
 
 -- ---- layers
 
@@ -169,8 +125,8 @@ module _ (f : FoldValue) (x : Bricks) (k : ℕ) (same : length x ≡ length f.pr
   pub stays : (t place i : ℕ) (b : Brick) (v : Vector) (menu : Menu) (next : Layer) →
       slice_get zs place ≡ Some (zeros t) → All (λ z. length z ≡ t) zs →
       length v ≡ t → IsWithin b v → length next ≡ length zs → IsBrickMenu f k b v menu → MayStay zs menu next
-  stays t place i b v menu next listed widths size within all is =
-      may_stay f.phase zs k t b v menu next place is.moves listed widths size within all
+  stays t place i b v menu next contains_at widths size within all is =
+      may_stay f.phase zs k t b v menu next place is.moves contains_at widths size within all
 
 -- ---- what a layer needs of the brick before it
 
@@ -226,7 +182,7 @@ tops_fresh zs from next tops size is all =
   where
     none : (n h : ℕ) (o : Option ℤ) → slice_get (replicate n None) h ≡ Some o → o ≡ None
     none zero h o there = absurd (cc)
-    none (suc n) zero o there = sym (at_same (Some None) None o refl there)
+    none (suc n) zero o there = sym (same_value (Some None) None o refl there)
     none (suc n) (suc h) o there = none n h o there
 
 -- those that stand in a list, over the layer that stands in one

@@ -1,9 +1,7 @@
 -- By how much the moves of all bricks lower the cost at most, each brick taken by itself.
 use Rattle.std.proofs.Common.{◌≡◌, ℕ, zero, suc, ◌+◌, ◌-◌, ◌*◌, ◌^◌, ◌<◌, ◌≤◌, ℤ, pos, ◌+ℤ◌, ◌-ℤ◌, ◌≤ℤ◌, ◌<ℤ◌, Bool}
-use Rattle.std.proofs.Common.{true, false, cond, int_lt, List, [], ◌∷◌}
-use Rattle.std.proofs.Common.{length, take, drop, map, sum_by, refl, ap, arith, sym, ◌∙◌, Some, slice_get, subst}
-use Rattle.std.proofs.Common.{Contains, ◌⊎◌, inl, inr}
-use Rattle.std.proofs.Common.{unsigned_abs}
+use Rattle.std.proofs.Common.{true, false, cond, int_lt, List, [], ◌∷◌, length, take, drop, map, sum_by, refl, ap}
+use Rattle.std.proofs.Common.{arith, sym, ◌∙◌, Some, slice_get, subst, Contains, ◌⊎◌, inl, inr, unsigned_abs}
 use Rattle.std.specs.List.{filter}
 use Rattle.std.specs.Int.{int_min}
 use Rattle.std.proofs.lemmas.Int.{ints}
@@ -17,20 +15,20 @@ use Rattle.lattice_laws.proofs.Members.{contains_cases, contains_head, contains_
 use Rattle.lattice_laws.proofs.Members.{filtered_from}
 use Rattle.lattice_laws.proofs.Multiples.{scale-zeros}
 use Rattle.lattice_laws.proofs.Sums.{add_zeros}
-use Rattle.piece_laws.proofs.Bounds.{is_within_true, is_within_of}
+use Rattle.lattice_laws.proofs.Places.{same_value, drop-at, contains_at, place_of}
 use Rattle.fold_theory.specs.declared.Phase.{Phase}
-use Rattle.fold_theory.specs.declared.Phase.TheVariants.{Closed, Counted}
 use Rattle.fold_theory.specs.Programs.{Program, Brick, Bricks, IsWithin, is_within}
 use Rattle.fold_program.specs.Refusals.{brick_magnitude, total_magnitude}
 use Rattle.run_theory.specs.Walks.{brick_change, WalkCosts}
 use Rattle.run_theory.specs.Live.{least, least_change, least_before}
 use Rattle.run_theory.specs.Folds.{FoldValue}
+use Rattle.fold_laws.proofs.Bounds.{is_within_true, is_within_of}
 use Rattle.walk_laws.proofs.Walks.{front_of}
 use Rattle.sieve_laws.specs.declared.PricedMove.{PricedMove}
 use Rattle.sieve_laws.specs.Sieve.{Menu, IsMenu, after}
+use Rattle.sieve_laws.proofs.Rows.{no_change}
 use Rattle.brick_dp.specs.Needs.{IsLeastOf}
-use Rattle.brick_dp.proofs.ChangeLaws.{at_same}
-use Rattle.brick_dp.proofs.FillLaws.{place_of, listed, drop_here, AtBrick}
+use Rattle.brick_dp.proofs.FillLaws.{AtBrick}
 
 -- ---- the least of a list of numbers
 
@@ -68,10 +66,6 @@ least-in x (y ∷ rest) = elim (min_one x (least (y ∷ rest))) [
 ]
 
 -- ---- the least change of a brick
-
-no_change : (phase : Phase) (b : Brick) (v : Vector) → brick_change phase b v v ≡ pos 0
-no_change Closed b v = omega (arith, ints)
-no_change Counted b v = refl
 
 module _ (phase : Phase) (zs : List Vector) (k : ℕ) (b : Brick) (v : Vector) where
   abbrev change_of : Vector → ℤ
@@ -120,7 +114,7 @@ module _ (phase : Phase) (zs : List Vector) (k : ℕ) (b : Brick) (v : Vector) w
             let (h, place) = place_of zs d there in
             let (i, m, here, at) = is.complete h d place within in
             let (e, move, _, change) = is.sound i m here in
-            let same : e ≡ d = at_same (slice_get zs m.place) e d move (ap (slice_get zs) at ∙ place) in
+            let same : e ≡ d = same_value (slice_get zs m.place) e d move (ap (slice_get zs) at ∙ place) in
             omega (arith, ints, lowest.low i m here, change, ap change_of same, cost)
       ]
 
@@ -131,7 +125,7 @@ module _ (phase : Phase) (zs : List Vector) (k : ℕ) (b : Brick) (v : Vector) w
             omega (arith, ints, low, free, none)
         | inr (i, m, here, cost) ↦
             let (e, move, within, change) = is.sound i m here in
-            let low = least_change-low e (listed zs m.place e move) within in
+            let low = least_change-low e (contains_at zs m.place e move) within in
             omega (arith, ints, low, change, cost)
       ]
 
@@ -157,7 +151,7 @@ further menu before found n m here down low so_far i e under there = elim (cases
   | inl first ↦ omega (arith, ints, down, so_far.low i e first there)
   | inr last ↦
       let place : i ≡ n = omega (arith, last, under) in
-      let same : m ≡ e = at_same (slice_get menu n) m e here (ap (slice_get menu) (sym place) ∙ there) in
+      let same : m ≡ e = same_value (slice_get menu n) m e here (ap (slice_get menu) (sym place) ∙ there) in
       omega (arith, ints, low, ap (λ (m : PricedMove). m.change) same)
 ]
 
@@ -225,7 +219,7 @@ floor_small f x k n menu floor found most here lowest so_far =
   where
     split : sum_by brick_magnitude (drop n f.program.bricks) ≡ brick_magnitude here.brick + sum_by brick_magnitude
         (drop (n + 1) f.program.bricks)
-    split = ap (sum_by brick_magnitude) (drop_here f.program.bricks n here.brick here.brick_there)
+    split = ap (sum_by brick_magnitude) (drop-at f.program.bricks n here.brick here.brick_there)
         ∙ sum_by-cons brick_magnitude here.brick (drop (n + 1) f.program.bricks)
 
     small : unsigned_abs found ≤ 2 * brick_magnitude here.brick

@@ -5,7 +5,7 @@ use Rattle.std.proofs.Math.Nat.{mul-le-mul_right}
 use Rattle.std.proofs.lemmas.List.{length-append}
 use Rattle.std.proofs.lemmas.Option.{slice_get_within}
 use Rattle.lattice_theory.specs.Vectors.{Vector}
-use Rattle.brick_dp.proofs.ChangeLaws.{at_same, slice_get-push}
+use Rattle.lattice_laws.proofs.Places.{same_value, slice_get-push}
 
 -- ---- a list that has a fact for each place
 
@@ -37,13 +37,10 @@ module _ (P : Vector → Option ℤ → Type 0) (zs : List Vector) where
       by i v other listed (inl before) = so_far.nodes i v other listed before
       by i v other listed (inr last) =
           let place : i ≡ n = last.0 ∙ so_far.size in
-          let same : w ≡ v = at_same (slice_get zs n) w v there (ap (slice_get zs) (sym place) ∙ listed) in
+          let same : w ≡ v = same_value (slice_get zs n) w v there (ap (slice_get zs) (sym place) ∙ listed) in
           subst (λ u. P u other) same (subst (λ o. P w o) last.1 fact)
 
 -- ---- counting
-
-pub count_more : (a m n len i : ℕ) → m ≤ a + i * len → n ≤ m + len → n ≤ a + (i + 1) * len
-count_more a m n len i so_far here = omega (arith, so_far, here)
 
 -- more rounds in which nothing counts
 pub count_most : (a m len i more : ℕ) → m ≤ a + i * len → i ≤ more → m ≤ a + more * len

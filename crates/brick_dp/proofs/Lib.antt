@@ -1,4 +1,3 @@
-pub mod CostLaws
 pub mod ChangeLaws
 pub mod MenuLaws
 pub mod BlockLaws

@@ -1,7 +1,7 @@
 -- The menu of a brick, one listed sum after the other, and those of all bricks.
 use Rattle.std.proofs.Common.{◌≡◌, ◌≢◌, ℕ, zero, suc, ◌+◌, ◌-◌, ◌<◌, ◌≤◌, ℤ, pos, Bool, true, false, not, List, [], ◌∷◌}
-use Rattle.std.proofs.Common.{◌++◌, length, refl, ap, arith}
-use Rattle.std.proofs.Common.{sym, ◌∙◌, Some, slice_get, subst, ◌⊎◌, inl, inr, get_or, All}
+use Rattle.std.proofs.Common.{◌++◌, length, refl, ap, arith, sym, ◌∙◌, Some, slice_get, subst, ◌⊎◌, inl, inr, get_or}
+use Rattle.std.proofs.Common.{All}
 use Rattle.std.proofs.lemmas.List.{length-append, length-map, length-set}
 use Rattle.std.proofs.Math.ListN.{set}
 use Rattle.std.proofs.lemmas.Option.{slice_get_within, slice_get-get_or}
@@ -11,13 +11,12 @@ use Rattle.lattice_theory.specs.SignedSums.{Sum, vectors}
 use Rattle.fold_theory.specs.Programs.{Brick, Bricks, IsWithin}
 use Rattle.fold_program.specs.Places.{ForBrick}
 use Rattle.run_theory.specs.Folds.{FoldValue}
+use Rattle.lattice_laws.proofs.Places.{same_value, slice_get-push, there_at}
 use Rattle.sieve_laws.specs.declared.PricedMove.{PricedMove}
 use Rattle.sieve_laws.specs.Sieve.{Menu, after}
 use Rattle.sieve_laws.proofs.Cells.{slice_get-set_same, slice_get-set_other}
 use Rattle.brick_dp.specs.Changes.{IsChange}
 use Rattle.brick_dp.specs.Menus.{IsBrickMenu, AreMenus, AreListed, IsRenewed}
-use Rattle.brick_dp.proofs.ChangeLaws.{at_same, slice_get-push}
-use Rattle.brick_dp.proofs.FillLaws.{there_at}
 
 module _ {A : Type 0} where
   slice_get-before : (xs : List A) (x y : A) (i : ℕ) → slice_get xs i ≡ Some y → slice_get (xs ++ x ∷ []) i ≡ Some y
@@ -73,7 +72,7 @@ module _ (f : FoldValue) (k : ℕ) (b : Brick) (v : Vector) where
       by h e low listed within (inl before) = so_far.complete h e before listed within
       by h e low listed within (inr high) =
           let last : h ≡ n = omega (arith, low, high) in
-          let same : e ≡ d = at_same (slice_get zs n) e d (ap (slice_get zs) (sym last) ∙ listed) there in
+          let same : e ≡ d = same_value (slice_get zs n) e d (ap (slice_get zs) (sym last) ∙ listed) there in
           absurd (outside (subst (λ u. IsWithin b (after k v u)) same within))
 
   -- one that stays within them
@@ -167,7 +166,7 @@ menus_more f x k menus more n v menu at is_menu is so_far = record {
     by i b u other brick here (inl before) = so_far.each i b u other brick here before
     by i b u other brick here (inr last) =
         let place : i ≡ n = last.0 ∙ so_far.size in
-        let vectors_same : v ≡ u = at_same (slice_get x n) v u at (ap (slice_get x) (sym place) ∙ here) in
+        let vectors_same : v ≡ u = same_value (slice_get x n) v u at (ap (slice_get x) (sym place) ∙ here) in
         subst (λ (m : Menu). IsBrickMenu f k b u m) last.1 (
         subst (λ w. IsBrickMenu f k b w menu) vectors_same (is_menu b (ap (slice_get f.program.bricks) (sym place)
         ∙ brick))
@@ -262,7 +261,7 @@ following_new f x y k menus more n v here new so_far = record {
         IsBrickMenu f k b u other
     by i b u other under brick at there (inl same) =
         let index : i ≡ n + 1 - 1 = same ∙ sym place in
-        let vectors_same : v ≡ u = at_same (slice_get y n) v u here (ap (slice_get y) (sym same) ∙ at) in
+        let vectors_same : v ≡ u = same_value (slice_get y n) v u here (ap (slice_get y) (sym same) ∙ at) in
         subst (λ w. IsBrickMenu f k b w other) vectors_same (
         new.new other (ap (slice_get more) (sym index) ∙ there) b
         (ap (slice_get f.program.bricks) (sym index) ∙ brick)
@@ -321,7 +320,7 @@ renewed_by f k brick v menus menu low is = record {
   others = λ i other apart there. sym (slice_get-set_other menus (brick - 1) i menu apart) ∙ there;
   new = λ other there.
       let here = slice_get-set_same menus (brick - 1) menu low in
-      let same : menu ≡ other = at_same (slice_get (set menus (brick - 1) menu) (brick - 1)) menu other here there in
+      let same : menu ≡ other = same_value (slice_get (set menus (brick - 1) menu) (brick - 1)) menu other here there in
       subst (λ (m : Menu). ForBrick f.program brick (λ b. IsBrickMenu f k b v m)) same is;
 }
 
@@ -340,7 +339,7 @@ listed_renewed sums place menus menu new are i other there = by (cases_order i p
           slice_get_within (set menus place menu) i other there,
           length-set menus place menu,
         ) in
-        let is : menu ≡ other = at_same (slice_get (set menus place menu) place) menu other
+        let is : menu ≡ other = same_value (slice_get (set menus place menu) place) menu other
         (slice_get-set_same menus place menu low) (ap (slice_get (set menus place menu)) (sym same) ∙ there) in
         subst (λ (m : Menu). All (λ e. e.place < sums) m) is new
     by (inr (inl before)) = apart (λ e. omega (arith, before, e))

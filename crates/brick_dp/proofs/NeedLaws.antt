@@ -1,10 +1,8 @@
 -- The best step from the best walk, and the answer where no walk lowers the cost by what is needed.
-use Rattle.std.proofs.Common.{◌≡◌, ℕ, ◌^◌, ◌<◌, ℤ, pos, ◌-ℤ◌, ◌≤ℤ◌, ◌<ℤ◌, Bool, true, false, not, List, length, refl}
-use Rattle.std.proofs.Common.{ap, arith, sym, ◌∙◌}
-use Rattle.std.proofs.Common.{Some, None, Option, subst, All, inl, inr, unsigned_abs, int_lt}
+use Rattle.std.proofs.Common.{◌≡◌, ℕ, ◌^◌, ◌<◌, ℤ, pos, ◌-ℤ◌, ◌≤ℤ◌, ◌<ℤ◌, Bool, true, false, List, length, refl, ap}
+use Rattle.std.proofs.Common.{arith, sym, ◌∙◌, Some, None, Option, subst, All, inl, inr, unsigned_abs, int_lt}
 use Rattle.std.proofs.lemmas.Int.{ints}
 use Rattle.std.proofs.lemmas.Bool.Decides.{nat_tests}
-use Rattle.walk_laws.proofs.Candidates.{widths_within}
 use Rattle.lattice_theory.specs.Vectors.{Vector, zeros, is_rising}
 use Rattle.lattice_theory.specs.SignedSums.{vectors}
 use Rattle.fold_theory.specs.Programs.{IsProgram, AreWithin, Bricks, link_rests, IsLength}
@@ -14,24 +12,17 @@ use Rattle.run_theory.specs.Outcomes.{step_at, nonzero_from, nonzero_entries}
 use Rattle.run_theory.specs.Steps.{gain, Augments}
 use Rattle.run_theory.specs.Folds.{FoldValue}
 use Rattle.run_theory.specs.Bests.{IsFound, IsBeaten}
+use Rattle.fold_laws.proofs.Points.{widths_within}
 use Rattle.walk_laws.proofs.BestWalks.{IsBestWalk}
 use Rattle.walk_laws.proofs.BestSteps.{none_augments, walk_augments, best_is_first, gain_is}
 use Rattle.sieve_laws.proofs.Existence.{BestOrNone, best_or_none}
 use Rattle.brick_dp.specs.Needs.{IsNeeded, NoneGains}
-
-pub not_so : (b : Bool) → not b ≡ false → b ≡ true
-not_so true e = refl
-not_so false e = absurd (cc)
 
 -- what a bound does not beat, no bound before it beats
 pub no_worse : (key : Key) (old new : Option Key) → IsNoWorse old new → beaten key new ≡ false → beaten key old ≡ false
 no_worse key None new better safe = refl
 no_worse key (Some a) None better safe = absurd better
 no_worse key (Some a) (Some b) better safe = grind (arith, nat_tests)
-
-pub not_is : (b : Bool) → not b ≡ true → b ≡ false
-not_is true e = absurd (cc)
-not_is false e = refl
 
 module _ (f : FoldValue) (x : Bricks) (k : ℕ) (program : IsProgram f.program) (within : AreWithin f.program.bricks x)
     (cols : f.program.brick.cols ≡ f.program.link.cols) (widths : All (λ z. length z ≡ f.program.brick.cols)

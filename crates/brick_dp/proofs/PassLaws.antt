@@ -2,8 +2,7 @@
 -- layer
 -- behind it repeats that layer.
 use Rattle.std.proofs.Common.{◌≡◌, ℕ, ◌+◌, ◌-◌, ◌^◌, ◌<◌, ◌≤◌, ℤ, pos, ◌-ℤ◌, ◌≤ℤ◌, List, [], ◌∷◌, ◌++◌, length, ap}
-use Rattle.std.proofs.Common.{arith}
-use Rattle.std.proofs.Common.{sym, ◌∙◌, Option, Some, All, Contains, subst}
+use Rattle.std.proofs.Common.{arith, sym, ◌∙◌, Option, Some, All, Contains, subst}
 use Rattle.std.specs.Prelude.{slice_get}
 use Rattle.std.proofs.lemmas.Int.{ints}
 use Rattle.lattice_theory.specs.Vectors.{zeros}
@@ -13,19 +12,19 @@ use Rattle.run_theory.specs.declared.Key.{Key}
 use Rattle.run_theory.specs.Folds.{FoldValue}
 use Rattle.run_theory.specs.Keys.{IsNoWorse}
 use Rattle.run_theory.specs.Live.{least_before}
+use Rattle.lattice_laws.proofs.Places.{place_of}
 use Rattle.fold_program.specs.Refusals.{total_magnitude}
 use Rattle.sieve_laws.specs.Sieve.{Layer, Menu, AreIdle, AreTops, IsLayerOver, live}
 use Rattle.sieve_laws.proofs.Idle.{idle_over, idle_less}
+use Rattle.gain_laws.proofs.Keys.{no_worse_itself, no_worse_through}
 use Rattle.layer_sieve.specs.Reaching.{AreAtMost}
 use Rattle.brick_dp.specs.Needs.{IsNeeded, IsLeastOf, IsFloor, IsSwept, AreAbove, AreBeaten, IsHopeless, HasHope}
 use Rattle.brick_dp.specs.Needs.{NoneLives}
 use Rattle.brick_dp.specs.Tables.{IsLayer, limit_at}
-use Rattle.brick_dp.proofs.FillLaws.{AtBrick, place_of, stays, most_small, cells_small}
+use Rattle.brick_dp.proofs.FillLaws.{AtBrick, stays, most_small, cells_small}
 use Rattle.brick_dp.proofs.FloorLaws.{floor_next, floor_fits}
 use Rattle.brick_dp.proofs.MenuLaws.{slice_get-last}
 use Rattle.brick_dp.proofs.UnderLaws.{AreTopsUnder, tops_under, none_gains_above, last_lives, layers_over-under}
-use Rattle.brick_dp.proofs.UnderLaws.{no_worse-same}
-use Rattle.brick_dp.proofs.UnderLaws.{no_worse-trans}
 
 -- ---- where the bound leaves hope
 
@@ -57,7 +56,7 @@ module _ (f : FoldValue) (x : Bricks) (k m : ℕ) (old now : Option Key) (all : 
 
   pub swept_later : IsSwept f x k m now all layer lowest
   swept_later = record {
-    layers = λ later need worse needed. so_far.layers later need (no_worse-trans old now later better worse) needed;
+    layers = λ later need worse needed. so_far.layers later need (no_worse_through old now later better worse) needed;
     last = so_far.last;
     floor = so_far.floor;
   }
@@ -83,7 +82,7 @@ module _ (f : FoldValue) (x : Bricks) (k m : ℕ) (old now : Option Key) (all : 
       (so_far.floor.is ∙ ap (least_before f.program f.phase (vectors f.sums) x k) first)
       (λ need needed. subst (λ i. IsLayer f x k i need layer) first
       ((so_far.layers now need better needed).each m layer so_far.last)) hope
-      (no_worse-trans start old now before better)
+      (no_worse_through start old now before better)
 
   -- one more brick, over which the layer is another one
   pub swept_over : (more : List Layer) (over : Layer) (menu : Menu) (least limit : ℤ) → m < length f.program.bricks →
@@ -140,7 +139,7 @@ module _ (f : FoldValue) (x : Bricks) (k : ℕ) (same : length x ≡ length f.pr
     need = hope.0
 
     layer_is : IsLayer f x k (n - m) need layer
-    layer_is = (so_far.layers bound need (no_worse-same bound) hope.1).each m layer so_far.last
+    layer_is = (so_far.layers bound need (no_worse_itself bound) hope.1).each m layer so_far.last
 
     below : limit_at f x k need (n - m) ≤ℤ limit
     below = omega (arith, ints, hope.2, so_far.floor.is, rises)
@@ -156,11 +155,11 @@ module _ (f : FoldValue) (x : Bricks) (k : ℕ) (same : length x ≡ length f.pr
     -- one more brick
     pub swept_idle : IsSwept f x k (m + 1) bound more layer (floor -ℤ least)
     swept_idle =
-        let size = (so_far.layers bound need (no_worse-same bound) hope.1).size in
+        let size = (so_far.layers bound need (no_worse_itself bound) hope.1).size in
         let next = floor_next f x k m menu floor least low here origin lowest so_far.floor.is so_far.floor.small in
         record {
           layers = layers_over-under f x k m layers more layer layer menu low here so_far.last is bound bound need
-              so_far.layers (no_worse-same bound) hope.1 over;
+              so_far.layers (no_worse_itself bound) hope.1 over;
           last = ap (λ (ls : List Layer). slice_get ls (m + 1)) is ∙ ap (slice_get (layers ++ layer ∷ [])) (sym size)
               ∙ slice_get-last layers layer;
           floor = record { is = next.0; small = next.1 };
@@ -168,6 +167,6 @@ module _ (f : FoldValue) (x : Bricks) (k : ℕ) (same : length x ≡ length f.pr
 
     pub last_of : slice_get layers (length layers - 1) ≡ Some layer
     last_of =
-        let size = (so_far.layers bound need (no_worse-same bound) hope.1).size in
+        let size = (so_far.layers bound need (no_worse_itself bound) hope.1).size in
         let place : length layers - 1 ≡ m = omega (arith, size) in
         ap (slice_get layers) place ∙ so_far.last

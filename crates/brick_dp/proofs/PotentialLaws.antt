@@ -9,12 +9,13 @@ use Rattle.fold_theory.specs.Programs.{Bricks, link_rests}
 use Rattle.run_theory.specs.Walks.{IsPotential}
 use Rattle.run_theory.specs.Outcomes.{ArePotentials}
 use Rattle.run_theory.specs.Folds.{FoldValue}
+use Rattle.lattice_laws.proofs.Places.{there_at}
 use Rattle.walk_laws.proofs.BestWalks.{IsLeastWalk}
 use Rattle.fold_program.specs.Refusals.{total_magnitude}
 use Rattle.layer_sieve.specs.Reaching.{AreAtMost}
 use Rattle.sieve_laws.specs.Sieve.{Layer}
 use Rattle.brick_dp.specs.Tables.{AreLeastLayers, table_of, IsCell}
-use Rattle.brick_dp.proofs.FillLaws.{there_at, most_small, cells_small}
+use Rattle.brick_dp.proofs.FillLaws.{most_small, cells_small}
 use Rattle.brick_dp.proofs.UnderLaws.{least_of_all}
 
 -- the rows of the table are those of the layers, the other way round

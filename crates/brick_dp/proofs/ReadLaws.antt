@@ -5,7 +5,6 @@ use Rattle.std.proofs.Common.{append-nil, unsigned_abs, IsTrue}
 use Rattle.std.proofs.lemmas.Int.{ints}
 use Rattle.std.proofs.lemmas.List.{drop_all, length-append}
 use Rattle.std.specs.Ordering.{is_le}
-use Rattle.walk_laws.proofs.Candidates.{widths_within}
 use Rattle.lattice_theory.specs.Vectors.{Vector, is_rising, is_zero, zeros, add}
 use Rattle.lattice_theory.specs.SignedSums.{vectors}
 use Rattle.fold_theory.specs.Programs.{IsProgram, AreWithin, Bricks, link_rests, IsLength}
@@ -14,6 +13,8 @@ use Rattle.run_theory.specs.Steps.{gain, Augments, rule_cmp}
 use Rattle.run_theory.specs.Walks.{WalkCosts}
 use Rattle.run_theory.specs.Folds.{FoldValue}
 use Rattle.run_theory.specs.Bests.{IsFound}
+use Rattle.lattice_laws.proofs.Places.{same_value, drop-at}
+use Rattle.fold_laws.proofs.Points.{widths_within}
 use Rattle.walk_laws.proofs.BestWalks.{IsBestWalk, BeginsBest, begins_none, best_end}
 use Rattle.walk_laws.proofs.BestSteps.{walk_augments, best_is_first, gain_is}
 use Rattle.sieve_laws.specs.Sieve.{Layer, Menu, Goes}
@@ -22,10 +23,10 @@ use Rattle.sieve_laws.proofs.Rows.{goes_of_cell, begins_by_first}
 use Rattle.layer_sieve.specs.declared.choices.Choice.{Choice}
 use Rattle.layer_sieve.specs.Reaching.{IsChoice}
 use Rattle.brick_dp.specs.Tables.{IsLayer, AreLayers, IsFirstCost, limit_at}
-use Rattle.brick_dp.proofs.ChangeLaws.{at_same}
-use Rattle.brick_dp.proofs.FillLaws.{drop_here, AtBrick}
+use Rattle.brick_dp.proofs.FillLaws.{AtBrick}
 use Rattle.brick_dp.proofs.UnderLaws.{enough, front}
 
+-- a gain is the change of cost, turned
 turned : (a : ℤ) → unsigned_abs (pos 0 -ℤ a) ≡ unsigned_abs a
 turned a = grind (arith, ints)
 
@@ -185,10 +186,10 @@ module _ (f : FoldValue) (x : Bricks) (k : ℕ) (layers : List Layer) (total : �
         d = goes.reach.leads.by
 
         from : goes.reach.leads.from ≡ r.sum
-        from = at_same (slice_get zs at) (goes.reach.leads.from) r.sum (goes.reach.leads.start) r.listed
+        from = same_value (slice_get zs at) (goes.reach.leads.from) r.sum (goes.reach.leads.start) r.listed
 
         parts : part ≡ d
-        parts = at_same (slice_get zs choice.place) part d there (ap (slice_get zs) chosen.place
+        parts = same_value (slice_get zs choice.place) part d there (ap (slice_get zs) chosen.place
             ∙ goes.reach.leads.move)
 
         number : done + 1 ≡ 1 + length r.front
@@ -201,10 +202,10 @@ module _ (f : FoldValue) (x : Bricks) (k : ℕ) (layers : List Layer) (total : �
             subst (λ bs. BeginsBest f.program f.phase zs k (link_rests f.program x) f.program.bricks bs x
             (at_brick.vector ∷ drop (done + 1) x)
             (zeros f.program.brick.cols) r.sum total cost r.front)
-            (drop_here f.program.bricks done at_brick.brick at_brick.brick_there) (
+            (drop-at f.program.bricks done at_brick.brick at_brick.brick_there) (
             subst (λ y. BeginsBest f.program f.phase zs k (link_rests f.program x) f.program.bricks
             (drop done f.program.bricks) x y (zeros f.program.brick.cols) r.sum total cost r.front)
-            (drop_here x done at_brick.vector at_brick.vector_there) r.begins
+            (drop-at x done at_brick.vector at_brick.vector_there) r.begins
             )
 
         further : BeginsBest f.program f.phase zs k (link_rests f.program x) f.program.bricks

@@ -1,7 +1,7 @@
 -- Live nodes at which moves were tried: those of one layer after those of the layers behind it.
 use Rattle.std.proofs.Common.{◌≡◌, ℕ, suc, ◌+◌, ◌-◌, ◌*◌, ◌<◌, ◌≤◌, ◌^◌, ◌≤ℤ◌, unsigned_abs, ℤ, pos, ◌-ℤ◌, true, List}
-use Rattle.std.proofs.Common.{[], ◌∷◌, ◌++◌, length, map, get_or, ap, arith, sym, ◌∙◌}
-use Rattle.std.proofs.Common.{Option, Some, slice_get, subst, Contains, All, inl, inr}
+use Rattle.std.proofs.Common.{[], ◌∷◌, ◌++◌, length, map, get_or, ap, arith, sym, ◌∙◌, Option, Some, slice_get, subst}
+use Rattle.std.proofs.Common.{Contains, All, inl, inr}
 use Rattle.std.proofs.Math.Nat.{mul-le-mul_right}
 use Rattle.std.proofs.lemmas.List.{length-append, length-map}
 use Rattle.std.proofs.lemmas.List.Elements.{All-append, All-map, All-weaker, All-nil, All-contains}
@@ -12,18 +12,18 @@ use Rattle.lattice_laws.proofs.Members.{mapped_from}
 use Rattle.fold_theory.specs.declared.Phase.{Phase}
 use Rattle.fold_theory.specs.Programs.{Program, Bricks}
 use Rattle.run_theory.specs.declared.Key.{Key}
-use Rattle.run_theory.specs.Live.{Node, IsLive, TriesLiveNodes}
+use Rattle.run_theory.specs.Live.{Node, IsLive, TriesLiveNodes, least_before}
 use Rattle.run_theory.specs.Keys.{IsNoWorse}
-use Rattle.run_theory.specs.Live.{least_before}
 use Rattle.run_theory.specs.Folds.{FoldValue}
 use Rattle.lattice_theory.specs.SignedSums.{Sum, vectors}
 use Rattle.fold_program.specs.Refusals.{total_magnitude}
 use Rattle.sieve_laws.specs.Sieve.{Layer, IsAtMost}
 use Rattle.sieve_laws.proofs.Lowering.{one_place}
+use Rattle.gain_laws.proofs.Keys.{no_worse_through}
 use Rattle.layer_sieve.specs.Tried.{AreDifferent, IsTried}
 use Rattle.brick_dp.specs.Needs.{IsNeeded, HasHope, AreLayersUnder}
 use Rattle.brick_dp.specs.Tables.{limit_at, IsLayer}
-use Rattle.brick_dp.proofs.UnderLaws.{node_lives, no_worse-trans}
+use Rattle.brick_dp.proofs.UnderLaws.{node_lives}
 
 -- no element stands in the list twice
 abbrev pub AreApart : {A : Type 0} → List A → Type 0
@@ -191,6 +191,6 @@ tried_next f x k done floor limit layers layer old bound now start before after 
     tried_layer f x k (n - done) (n - (done + 1)) need limit layer old now (before - start) (after - before) few
     rising (omega (arith, low)) (omega arith) most
     (subst (λ (a : ℤ). unsigned_abs a ≤ 2 ^ 122) lowest small) layer_is needed
-    (no_worse-trans old bound now so_far better)
+    (no_worse_through old bound now so_far better)
     (is ∙ ap (λ (a : ℤ). (pos 0 -ℤ need) -ℤ a) lowest) (omega (arith, short, size)) tried nodes
     )

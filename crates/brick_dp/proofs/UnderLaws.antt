@@ -1,10 +1,8 @@
 -- Layers for what a step has to gain: how each comes from the next one, and what they say of steps.
-use Rattle.std.proofs.Common.{◌≡◌, ℕ, zero, suc, ◌+◌, ◌-◌, ◌*◌, ◌^◌, ◌<◌, ◌≤◌, ℤ, pos, ◌-ℤ◌, ◌+ℤ◌, ◌≤ℤ◌, ◌<ℤ◌, Bool}
-use Rattle.std.proofs.Common.{true, false, int_lt, List, [], ◌∷◌, ◌++◌}
-use Rattle.std.proofs.Common.{length, drop, sum_by, refl, ap, arith, sym, ◌∙◌, Some, None, Option, slice_get, subst}
-use Rattle.std.proofs.Common.{Contains, ◌⊎◌, inl, inr, unsigned_abs}
+use Rattle.std.proofs.Common.{◌≡◌, ℕ, zero, suc, ◌+◌, ◌-◌, ◌*◌, ◌^◌, ◌<◌, ◌≤◌, ℤ, pos, ◌-ℤ◌, ◌+ℤ◌, ◌≤ℤ◌, ◌<ℤ◌, List, []}
+use Rattle.std.proofs.Common.{◌∷◌, ◌++◌, length, drop, sum_by, refl, ap, arith, sym, ◌∙◌, Some, Option, slice_get}
+use Rattle.std.proofs.Common.{subst, Contains, ◌⊎◌, inl, inr, unsigned_abs}
 use Rattle.std.proofs.lemmas.Int.{ints}
-use Rattle.std.proofs.lemmas.Bool.Decides.{nat_tests}
 use Rattle.std.proofs.lemmas.List.{length-append}
 use Rattle.std.proofs.lemmas.List.Sums.{sum_by-cons}
 use Rattle.std.proofs.lemmas.Option.{slice_get_within, get_or_from_slice_get}
@@ -12,11 +10,14 @@ use Rattle.lattice_theory.specs.Vectors.{Vector, add, zeros}
 use Rattle.lattice_theory.specs.SignedSums.{vectors}
 use Rattle.fold_theory.specs.Programs.{Brick, Bricks, IsWithin, link_rests}
 use Rattle.fold_program.specs.Refusals.{brick_magnitude, total_magnitude}
+use Rattle.fold_program.proofs.PlaceLaws.{brick_in_total}
 use Rattle.run_theory.specs.declared.Key.{Key}
 use Rattle.run_theory.specs.Keys.{beats, IsNoWorse}
 use Rattle.run_theory.specs.Walks.{brick_change, WalkCosts}
 use Rattle.run_theory.specs.Live.{least_change, least_before, IsLive}
 use Rattle.run_theory.specs.Folds.{FoldValue}
+use Rattle.lattice_laws.proofs.Places.{same_value, drop-at, contains_at, place_of, slice_get-push, there_at}
+use Rattle.lattice_laws.proofs.Tests.{le_or_less}
 use Rattle.walk_laws.proofs.Walks.{front_of}
 use Rattle.walk_laws.proofs.BestWalks.{IsLeastRow}
 use Rattle.sieve_laws.specs.declared.PricedMove.{PricedMove}
@@ -26,19 +27,9 @@ use Rattle.sieve_laws.proofs.Tops.{tops_less}
 use Rattle.brick_dp.specs.Ends.{IsLastLayer}
 use Rattle.brick_dp.specs.Needs.{IsNeeded, AreAbove, NoneGains, HasHope, NoneLives, AreLayersUnder}
 use Rattle.brick_dp.specs.Tables.{most_from, limit_at, CostsFrom, AreWalksSmall, IsLayer, AreLayers, AreLeastLayers}
-use Rattle.brick_dp.proofs.ChangeLaws.{at_same, slice_get-push}
-use Rattle.brick_dp.proofs.CostLaws.{brick_in_total}
-use Rattle.brick_dp.proofs.FillLaws.{place_of, listed, there_at, drop_here, AtBrick, most_small, most_from-small}
-use Rattle.brick_dp.proofs.FillLaws.{cells_small, last_is}
+use Rattle.brick_dp.proofs.FillLaws.{AtBrick, most_small, most_from-small, cells_small, last_is}
 use Rattle.brick_dp.proofs.FloorLaws.{least_change-low, sum_zip-next, Passes, passes}
 use Rattle.brick_dp.proofs.NeedLaws.{no_worse}
-
-pub le_or_less : (a b : ℤ) → (a ≤ℤ b) ⊎ (b <ℤ a)
-le_or_less a b = by (int_lt b a) refl
-  where
-    by : (t : Bool) → int_lt b a ≡ t → (a ≤ℤ b) ⊎ (b <ℤ a)
-    by true e = inr (grind (arith, ints))
-    by false e = inl (grind (arith, ints))
 
 -- ---- what bounds ask for
 
@@ -58,20 +49,6 @@ need_rises k old now need ask better first then = elim (le_or_less need ask) [
       ]
 ]
 
--- of three bounds
-pub no_worse-trans : (old now later : Option Key) → IsNoWorse old now → IsNoWorse now later → IsNoWorse old later
-no_worse-trans None now later first then = tt
-no_worse-trans (Some a) None later first then = absurd first
-no_worse-trans (Some a) (Some b) None first then = absurd then
-no_worse-trans (Some a) (Some b) (Some c) first then = no_worse c (Some a) (Some b) first then
-
-pub no_worse-same : (bound : Option Key) → IsNoWorse bound bound
-no_worse-same None = tt
-no_worse-same (Some a) = same
-  where
-    same : beats a a ≡ false
-    same = grind (arith, nat_tests)
-
 -- ---- walks and layers
 
 module _ (f : FoldValue) (x : Bricks) (k : ℕ) where
@@ -90,7 +67,7 @@ module _ (f : FoldValue) (x : Bricks) (k : ℕ) where
       IsLeastRow f.program f.phase zs k (link_rests f.program x) (drop i f.program.bricks) (drop i x) layer
   least_row i limit layer high small under =
       under_least f.program f.phase zs k (link_rests f.program x) (drop i f.program.bricks) (drop i x) limit layer under
-      (λ j w h c start wc. let few = small w h c (listed zs j w start) wc in omega (arith, ints, high, few))
+      (λ j w h c start wc. let few = small w h c (contains_at zs j w start) wc in omega (arith, ints, high, few))
 
   -- a layer for whatever a step is to gain has the least costs
   pub least_of_all : (i : ℕ) (layer : Layer) → ((need : ℤ) → IsLayer f x k i need layer) →
@@ -138,7 +115,7 @@ module _ (f : FoldValue) (x : Bricks) (k : ℕ) where
         (limit_at f x k need i -ℤ m.change) ≤ℤ limit_at f x k need (i + 1)
     enough need j m there =
         let (d, move, within, is) = here.menu_is.moves.sound j m there in
-        let low = least_change-low f.phase zs k here.brick here.vector d (listed zs m.place d move) within in
+        let low = least_change-low f.phase zs k here.brick here.vector d (contains_at zs m.place d move) within in
         omega (arith, ints, low, is, floor_split)
 
     -- the walks from this layer, by their first brick
@@ -147,22 +124,22 @@ module _ (f : FoldValue) (x : Bricks) (k : ℕ) where
         (here.vector ∷ rest_point) w h c
     walk_here w h c wc =
         subst (λ y. WalkCosts f.program f.phase zs k (link_rests f.program x) (here.brick ∷ rest_bricks) y w h c)
-        (drop_here x i here.vector here.vector_there)
+        (drop-at x i here.vector here.vector_there)
         (subst (λ bs. WalkCosts f.program f.phase zs k (link_rests f.program x) bs (drop i x) w h c)
-        (drop_here f.program.bricks i here.brick here.brick_there) wc)
+        (drop-at f.program.bricks i here.brick here.brick_there) wc)
 
     back : (limit : ℤ) (layer : Layer) → Under (here.brick ∷ rest_bricks) (here.vector ∷ rest_point) limit layer →
         Under (drop i f.program.bricks) (drop i x) limit layer
     back limit layer under =
-        subst (λ y. Under (drop i f.program.bricks) y limit layer) (sym (drop_here x i here.vector here.vector_there))
+        subst (λ y. Under (drop i f.program.bricks) y limit layer) (sym (drop-at x i here.vector here.vector_there))
         (subst (λ bs. Under bs (here.vector ∷ rest_point) limit layer)
-        (sym (drop_here f.program.bricks i here.brick here.brick_there)) under)
+        (sym (drop-at f.program.bricks i here.brick here.brick_there)) under)
 
     pub front : (limit : ℤ) (layer : Layer) → Under (drop i f.program.bricks) (drop i x) limit layer →
         Under (here.brick ∷ rest_bricks) (here.vector ∷ rest_point) limit layer
     front limit layer under =
-        subst (λ y. Under (here.brick ∷ rest_bricks) y limit layer) (drop_here x i here.vector here.vector_there)
-        (subst (λ bs. Under bs (drop i x) limit layer) (drop_here f.program.bricks i here.brick here.brick_there) under)
+        subst (λ y. Under (here.brick ∷ rest_bricks) y limit layer) (drop-at x i here.vector here.vector_there)
+        (subst (λ bs. Under bs (drop i x) limit layer) (drop-at f.program.bricks i here.brick here.brick_there) under)
 
     -- a listed move that stays within the bounds stands on the menu, and so changes the cost by little
     move_small : (d : Vector) → Contains zs d → IsWithin here.brick (after k here.vector d) →
@@ -172,7 +149,7 @@ module _ (f : FoldValue) (x : Bricks) (k : ℕ) where
         let (h, place) = place_of zs d there in
         let (j, m, at, is) = here.menu_is.moves.complete h d place within in
         let (e, move, _, change) = here.menu_is.moves.sound j m at in
-        let same : e ≡ d = at_same (slice_get zs m.place) e d move (ap (slice_get zs) is ∙ place) in
+        let same : e ≡ d = same_value (slice_get zs m.place) e d move (ap (slice_get zs) is ∙ place) in
         let few : unsigned_abs m.change ≤ 2 * brick_magnitude here.brick =
         subst (λ (m : PricedMove). unsigned_abs m.change ≤ 2 * brick_magnitude here.brick)
         (get_or_from_slice_get menu j m m at)
@@ -186,7 +163,7 @@ module _ (f : FoldValue) (x : Bricks) (k : ℕ) where
       where
         split : sum_by brick_magnitude (drop i f.program.bricks) ≡ brick_magnitude here.brick + sum_by
             brick_magnitude rest_bricks
-        split = ap (sum_by brick_magnitude) (drop_here f.program.bricks i here.brick here.brick_there)
+        split = ap (sum_by brick_magnitude) (drop-at f.program.bricks i here.brick here.brick_there)
             ∙ sum_by-cons brick_magnitude here.brick rest_bricks
 
         by : (h : Bricks) →
@@ -260,7 +237,7 @@ module _ (f : FoldValue) (x : Bricks) (k : ℕ) where
       by : (m : ℕ) (other : Layer) → slice_get (layer ∷ []) m ≡ Some other → IsLayer f x k (n - m) need other
       by zero other there =
           let first : n ≡ n - 0 = omega arith in
-          subst (λ l. IsLayer f x k (n - 0) need l) (at_same (Some layer) layer other refl there)
+          subst (λ l. IsLayer f x k (n - 0) need l) (same_value (Some layer) layer other refl there)
           (subst (λ i. IsLayer f x k i need layer) first (last_is f x k same layer last need))
       by (suc m) other there = absurd (cc)
 
@@ -364,7 +341,7 @@ module _ (f : FoldValue) (x : Bricks) (k : ℕ) where
   node_lives i need layer old new j w a some inside most few is needed better here cell low = record {
     layer = some;
     inside = inside;
-    listed = listed zs j w here;
+    listed = contains_at zs j w here;
     potential = a;
     is = (is.under.walks j w a here cell, least);
     gains = omega (arith, ints, low, needed.low);
@@ -380,7 +357,8 @@ module _ (f : FoldValue) (x : Bricks) (k : ℕ) where
         | inr high ↦ omega (arith, ints, low, high)
         | inl under ↦
             let (b, there, less) = is.under.least j w h c here wc under in
-            let same : b ≡ a = at_same (Some b) b a refl (at_same (slice_get layer j) (Some b) (Some a) there cell) in
+            let same : b ≡ a = same_value (Some b) b a refl (same_value (slice_get layer j) (Some b) (Some a) there
+            cell) in
             omega (arith, ints, less, same)
       ]
 

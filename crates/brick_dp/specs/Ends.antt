@@ -1,7 +1,5 @@
 -- What walks cost at their ends.
-use Rattle.std.specs.Prelude.{◌≡◌, ℕ, ◌^◌, ℤ, pos, ◌-ℤ◌, nat_eq, cond, length, Option, Some, None, slice_get}
-use Rattle.fold_theory.specs.declared.Phase.{Phase}
-use Rattle.fold_theory.specs.declared.Phase.TheVariants.{Closed, Counted}
+use Rattle.std.specs.Prelude.{◌≡◌, ℕ, ◌^◌, ℤ, pos, length, Option, Some, slice_get}
 use Rattle.lattice_theory.specs.Vectors.{Vector, scale}
 use Rattle.lattice_theory.specs.Matrices.{product}
 use Rattle.lattice_theory.specs.SignedSums.{vectors}
@@ -13,11 +11,6 @@ use Rattle.layer_sieve.specs.Reaching.{AreAtMost}
 -- what walks cost that end at this sum, where the rows miss their right sides by these rests
 abbrev pub ending : FoldValue → ℕ → Vector → Vector → Option ℤ
 ending f k rests w = end_cost f.program f.phase rests (scale (pos (2 ^ k)) (product f.program.link w))
-
--- the same, from what the linking rows miss before and after
-abbrev pub end_at : Phase → ℕ → ℕ → Option ℤ
-end_at Closed before after = cond (nat_eq after 0) (Some (pos 0)) None
-end_at Counted before after = Some (pos after -ℤ pos before)
 
 -- the last layer
 pub record IsLastLayer (f : FoldValue) (k : ℕ) (rests : Vector) (layer : Layer) : Type 0 where

@@ -1,6 +1,6 @@
 -- All layers of a fold, from the last one to the first.
-use Rattle.std.specs.Prelude.{◌≡◌, ℕ, ◌+◌, ◌-◌, ◌*◌, ◌^◌, ◌≤◌, ℤ, pos, ◌-ℤ◌, unsigned_abs, List, length, reverse}
-use Rattle.std.specs.Prelude.{drop, sum_by, Contains, Option, Some, slice_get}
+use Rattle.std.specs.Prelude.{◌≡◌, ℕ, ◌+◌, ◌-◌, ◌*◌, ◌^◌, ◌≤◌, ℤ, pos, ◌-ℤ◌, unsigned_abs, List, length, reverse, drop}
+use Rattle.std.specs.Prelude.{sum_by, Contains, Option, Some, slice_get}
 use Rattle.lattice_theory.specs.SignedSums.{vectors}
 use Rattle.lattice_theory.specs.Vectors.{Vector, zeros}
 use Rattle.fold_theory.specs.Programs.{Program, Bricks, link_rests}

@@ -26,5 +26,10 @@ program = record {
 
 -- it starts at 2, which is within the bounds, has no row to miss, and takes no step
 settles_at_once : IsBrickEnd program ((pos 1 ∷ []) ∷ []) 1 [] (pos 2 ∷ []) 0
-settles_at_once =
-    (brick, refl, (λ m step. absurd (omega (arith, step.lowers)), refl), refl, ((record { le = tt }, tt), (record { le = tt }, tt)))
+settles_at_once = (
+  brick,
+  refl,
+  (λ m step. absurd (omega (arith, step.lowers)), refl),
+  refl,
+  ((record { le = tt }, tt), (record { le = tt }, tt)),
+)

@@ -35,7 +35,8 @@ module _ {K : Type 0} {R : K → K → Ordering} (total : IsTotalOrder R) where
   le_itself x = subst (λ o. IsTrue (is_le o)) (sym (tied_itself total x)) refl
 
   pub le_trans : (x y z : K) → IsTrue (is_le (R x y)) → IsTrue (is_le (R y z)) → IsTrue (is_le (R x z))
-  le_trans x y z first second = up_to (R x z) (upto total x y z (not_greater (R x y) first) (not_greater (R y z) second))
+  le_trans x y z first second = up_to (R x z) (upto total x y z (not_greater (R x y) first)
+      (not_greater (R y z) second))
 
   -- what is not less is at least
   pub le_from_not_lt : (x y : K) → is_lt (R x y) ≡ false → IsTrue (is_le (R y x))

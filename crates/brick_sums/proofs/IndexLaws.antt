@@ -1,5 +1,7 @@
--- Laws of the map from vectors to their places: it is made vector by vector, and a look-up in it finds a vector's place.
-use Rattle.std.proofs.Common.{◌≡◌, ℕ, zero, suc, ◌+◌, ◌<◌, ◌≤◌, ℤ, Bool, true, false, cond, List, [], ◌∷◌, length, get_or, refl, ap, arith, sym, subst, ◌∙◌, ◌⊎◌, inl, inr, IsTrue, Vec, Option, Some, None}
+-- Laws of the map from vectors to their places: it is made vector by vector, and a look-up in it finds a vector's
+-- place.
+use Rattle.std.proofs.Common.{◌≡◌, ℕ, zero, suc, ◌+◌, ◌<◌, ◌≤◌, ℤ, Bool, true, false, cond, List, [], ◌∷◌, length}
+use Rattle.std.proofs.Common.{get_or, refl, ap, arith, sym, subst, ◌∙◌, ◌⊎◌, inl, inr, IsTrue, Vec, Option, Some, None}
 use Rattle.std.specs.declared.alloc.Global.{Global}
 use Rattle.std.specs.Ordering.{int_eq}
 use Rattle.std.specs.Prelude.{MatchOption}
@@ -14,13 +16,11 @@ use Rattle.std.proofs.lemmas.List.Sorted.{All-permutation, Contains-permutation}
 use Rattle.std.proofs.lemmas.Option.{slice_get-get_or}
 use Rattle.lattice_theory.specs.Vectors.{Vector, is_rising}
 use Rattle.lattice_theory.specs.SignedSums.{Sum, vectors}
+use Rattle.lattice_laws.proofs.Rising.{stands_once}
+use Rattle.lattice_laws.proofs.Members.{contains_head}
 use Rattle.brick_sums.specs.Places.{Entry, IsIndex}
-use Rattle.brick_sums.proofs.RisingLaws.{stands_once}
 
 -- ---- look-ups
-
-contains_first : {A : Type 0} (x : A) (xs : List A) → Contains (x ∷ xs) x
-contains_first x xs = (0, omega arith, refl)
 
 contains_later : {A : Type 0} (x y : A) (xs : List A) → Contains xs y → Contains (x ∷ xs) y
 contains_later x y xs (i, low, e) = (suc i, omega (arith, low), e)
@@ -39,13 +39,14 @@ hit : (v : Vector) (entries : List Entry) (place : ℕ) → lookup (is_key v) en
 hit v [] place found = absurd (cc)
 hit v (e ∷ entries) place found = by (hit v entries place) (is_key v e.0) refl found
   where
-    by : (lookup (is_key v) entries ≡ Some place → Hit v entries place) → (b : Bool) → is_key v e.0 ≡ b → cond b (Some e.1) (lookup (is_key v) entries) ≡ Some place →
+    by : (lookup (is_key v) entries ≡ Some place → Hit v entries place) → (b : Bool) → is_key v e.0 ≡ b →
+        cond b (Some e.1) (lookup (is_key v) entries) ≡ Some place →
         Hit v (e ∷ entries) place
     by go_on true passes at =
         let place_is : e.1 ≡ place = cc in
         record {
           key = e.0;
-          among = subst (λ p. Contains (e ∷ entries) (e.0, p)) place_is (contains_first e entries);
+          among = subst (λ p. Contains (e ∷ entries) (e.0, p)) place_is (contains_head e entries);
           same = (signed_items v (e.0).items).0 passes;
         }
     by go_on false fails at =
@@ -53,14 +54,17 @@ hit v (e ∷ entries) place found = by (hit v entries place) (is_key v e.0) refl
         record { key = later.key; among = contains_later e (later.key, place) entries later.among; same = later.same }
 
 -- where it finds none, no entry is the vector's
-miss : (v : Vector) (entries : List Entry) → lookup (is_key v) entries ≡ None → (e : Entry) → Contains entries e → v ≡ (e.0).items → ⊥
+miss : (v : Vector) (entries : List Entry) → lookup (is_key v) entries ≡ None → (e : Entry) → Contains entries e →
+    v ≡ (e.0).items → ⊥
 miss v [] none e among same = absurd (omega (arith, among.1))
 miss v (d ∷ entries) none e among same = by (λ at c. miss v entries at e c same) (is_key v d.0) refl none among
   where
-    by : (lookup (is_key v) entries ≡ None → Contains entries e → ⊥) → (b : Bool) → is_key v d.0 ≡ b → cond b (Some d.1) (lookup (is_key v) entries) ≡ None → Contains (d ∷ entries) e → ⊥
+    by : (lookup (is_key v) entries ≡ None → Contains entries e → ⊥) → (b : Bool) → is_key v d.0 ≡ b →
+        cond b (Some d.1) (lookup (is_key v) entries) ≡ None → Contains (d ∷ entries) e → ⊥
     by go_on true passes at c = absurd (cc)
     by go_on false fails at (zero, low, f) =
-        let passes : is_key v d.0 ≡ true = (signed_items v (d.0).items).1 (same ∙ sym (ap (λ (x : Entry). (x.0).items) f)) in
+        let passes : is_key v d.0 ≡ true = (signed_items v (d.0).items).1 (same
+        ∙ sym (ap (λ (x : Entry). (x.0).items) f)) in
         absurd (cc)
     by go_on false fails at (suc i, low, f) = go_on at (i, omega (arith, low), f)
 
@@ -116,15 +120,20 @@ module _ (sums : List Sum) where
       by i v at (inr high) low =
           let place : n ≡ i = omega (arith, high, low) in
           let here : slice_get (vectors sums) i ≡ Some key.items = ap (slice_get (vectors sums)) (sym place) ∙ there in
-          let same : key.items ≡ v = cc in
-          ((key, n), Contains-permutation ((key, n) ∷ entries) more (key, n) put (contains_first (key, n) entries), same)
+          let same : key.items ≡ v = cc in (
+            (key, n),
+            Contains-permutation ((key, n) ∷ entries) more (key, n) put (contains_head (key, n) entries),
+            same,
+          )
 
-  pub index_all : (entries : List Entry) (n : ℕ) → length (vectors sums) ≤ n → IsIndexUpTo entries n → IsIndex sums entries
+  pub index_all : (entries : List Entry) (n : ℕ) → length (vectors sums) ≤ n → IsIndexUpTo entries n →
+      IsIndex sums entries
   index_all entries n all so_far = record {
     sound = All-weaker (λ (e : Entry). (e.1 < n) × (slice_get (vectors sums) e.1 ≡ Some (e.0).items))
         (λ (e : Entry). slice_get (vectors sums) e.1 ≡ Some (e.0).items) (λ e known. known.1) entries so_far.sound;
     complete = λ i d low.
-        so_far.complete i (get_or (vectors sums) i d) (omega (arith, all, low)) (slice_get-get_or (vectors sums) i d low);
+        so_far.complete i (get_or (vectors sums) i d) (omega (arith, all, low))
+        (slice_get-get_or (vectors sums) i d low);
   }
 
   -- ---- a look-up
@@ -133,7 +142,10 @@ module _ (sums : List Sum) where
     found_at : (place : ℕ) → lookup (is_key v) entries ≡ Some place → slice_get (vectors sums) place ≡ Some v
     found_at place found =
         let h = hit v entries place found in
-        All-contains (λ (e : Entry). slice_get (vectors sums) e.1 ≡ Some (e.0).items) entries (h.key, place) index.sound h.among
+        All-contains (λ (e : Entry). slice_get (vectors sums) e.1 ≡ Some (e.0).items) entries (
+          h.key,
+          place,
+        ) index.sound h.among
         ∙ ap Some (sym h.same)
 
     found_nowhere : lookup (is_key v) entries ≡ None → Contains (vectors sums) v → ⊥

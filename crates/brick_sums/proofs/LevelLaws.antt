@@ -8,11 +8,12 @@ use Rattle.std.proofs.lemmas.List.Sorted.{IsPermutation-map, Contains-permutatio
 use Rattle.lattice_theory.specs.Vectors.{Vector, add, sub}
 use Rattle.lattice_theory.specs.Matrices.{Matrix}
 use Rattle.lattice_theory.specs.SignedSums.{Sum, IsSignedSum, AreSums, ExceedsSumsOf, vectors}
+use Rattle.lattice_laws.proofs.VectorLists.{vectors-sum}
 use Rattle.brick_sums.specs.declared.fault.SumsFault.{SumsFault}
 use Rattle.brick_sums.specs.declared.fault.SumsFault.TheVariants.{Limit, Memory}
 use Rattle.brick_sums.specs.Refusals.{IsSumsFault}
 use Rattle.brick_sums.specs.Levels.{IsOffered, IsSumUpTo, AreLast, AreSumsSoFar, AreGrown, HasBoth, HasNeighbours}
-use Rattle.brick_sums.proofs.SumLaws.{vectors-sum, AreSums-stop, HasLevel-lacking}
+use Rattle.brick_sums.proofs.SumLaws.{AreSums-stop, HasLevel-lacking}
 
 -- ---- one vector that is offered
 
@@ -21,7 +22,11 @@ pub IsOffered-there : (s : Sum) (old new : List Sum) → IsOffered s old new →
 IsOffered-there s old new offered = elim offered.either [
   | inl same ↦ subst (λ sums. Contains (vectors sums) s.vector) (sym same.0) same.1
   | inr came ↦
-      Contains-permutation _ (vectors new) s.vector (IsPermutation-map (λ s. s.vector) _ new came.1) (0, omega arith, refl)
+      Contains-permutation _ (vectors new) s.vector (IsPermutation-map (λ s. s.vector) _ new came.1) (
+        0,
+        omega arith,
+        refl,
+      )
 ]
 
 -- and so is every vector that was there before
@@ -36,7 +41,8 @@ IsOffered-kept s old new offered v found = elim offered.either [
 
 -- a list that keeps its vectors keeps the sums with each generator
 pub HasNeighbours-kept : (gens : List Vector) (v : Vector) (old new : List Sum) →
-    ((w : Vector) → Contains (vectors old) w → Contains (vectors new) w) → HasNeighbours gens old v → HasNeighbours gens new v
+    ((w : Vector) → Contains (vectors old) w → Contains (vectors new) w) → HasNeighbours gens old v →
+    HasNeighbours gens new v
 HasNeighbours-kept gens v old new kept done =
     All-weaker (HasBoth old v) (HasBoth new v) (λ e there. (kept _ there.0, kept _ there.1)) gens done
 
@@ -46,7 +52,8 @@ module _ (t : ℕ) (gens : List Vector) where
   -- a sum of fewer generators is one of more
   IsSumUpTo-more : (m n : ℕ) (sums : List Sum) → m ≤ n → All (IsSumUpTo t gens m) sums → All (IsSumUpTo t gens n) sums
   IsSumUpTo-more m n sums below sound =
-      All-weaker (IsSumUpTo t gens m) (IsSumUpTo t gens n) (λ s known. (omega (arith, below, known.0), known.1)) sums sound
+      All-weaker (IsSumUpTo t gens m) (IsSumUpTo t gens n) (λ s known. (omega (arith, below, known.0), known.1)) sums
+      sound
 
 module _ (t : ℕ) (gens : List Vector) (level : ℕ) where
   -- all sums of at most so many generators are such sums so far
@@ -127,8 +134,10 @@ module _ (t : ℕ) (gens : List Vector) (level : ℕ) where
 
   -- the sum and the difference with a generator were offered
   pub AreGrown-neighbours : (n : ℕ) → n ≡ suc level → (before e plus minus : Vector) (old mid new : List Sum) →
-      IsSignedSum t gens level before → Contains gens e → plus ≡ add before e → minus ≡ sub before e → AreSumsSoFar t gens level old →
-      IsOffered (record { level = n; vector = plus }) old mid → IsOffered (record { level = n; vector = minus }) mid new →
+      IsSignedSum t gens level before → Contains gens e → plus ≡ add before e → minus ≡ sub before e →
+      AreSumsSoFar t gens level old →
+      IsOffered (record { level = n; vector = plus }) old mid →
+      IsOffered (record { level = n; vector = minus }) mid new →
       record { grew : AreGrown t gens level old new; there : HasBoth new before e }
   AreGrown-neighbours n next before e plus minus old mid new sum generator is_plus is_minus so_far first second =
       let half : AreGrown t gens level old mid =
@@ -147,7 +156,8 @@ module _ (t : ℕ) (gens : List Vector) (level : ℕ) where
   -- ---- a level that is done
 
   -- the sums of the last ones and each generator were offered: now all sums of one more generator are there
-  pub AreSums-next : (old new : List Sum) (last : List Vector) → AreSums t gens level old → AreLast t gens level old last → AreGrown t gens level old new →
+  pub AreSums-next : (old new : List Sum) (last : List Vector) → AreSums t gens level old →
+      AreLast t gens level old last → AreGrown t gens level old new →
       All (HasNeighbours gens new) last → AreSums t gens (suc level) new
   AreSums-next old new last these lasts grew done = record {
     rising = grew.so_far.rising;
@@ -174,11 +184,18 @@ module _ (t : ℕ) (gens : List Vector) (level : ℕ) where
           let reached : IsSignedSum t gens found.0.level before =
           subst (IsSignedSum t gens found.0.level) found.2 known.1.reached in
           elim (cases_lt found.0.level level) [
-            | inl lower ↦ grew.kept w (these.complete (suc found.0.level) w lower (before, e, reached, generator, either))
+            | inl lower ↦ grew.kept w (these.complete (suc found.0.level) w lower (
+              before,
+              e,
+              reached,
+              generator,
+              either,
+            ))
             | inr same ↦
                 let its : found.0.level ≡ level = omega (arith, known.0, same) in
                 let here : Contains last before =
-                subst (Contains last) found.2 (All-contains (λ s. s.level ≡ level → Contains last s.vector) old found.0 lasts.all found.1 its) in
+                subst (Contains last) found.2 (All-contains (λ s. s.level ≡ level → Contains last s.vector) old found.0
+                lasts.all found.1 its) in
                 elim either [
                   | inl plus ↦ subst (Contains (vectors new)) (sym plus) (both before e here generator).0
                   | inr minus ↦ subst (Contains (vectors new)) (sym minus) (both before e here generator).1
@@ -205,5 +222,6 @@ module _ (t : ℕ) (gens : List Vector) where
 -- a refusal for fewer generators is one for more
 pub IsSumsFault-more : (gens : Matrix) (level g most : ℕ) (fault : SumsFault) → level ≤ g →
     IsSumsFault gens level most fault → IsSumsFault gens g most fault
-IsSumsFault-more gens level g most Limit below refused = ExceedsSumsOf-more gens.cols gens.rows level g most below refused
+IsSumsFault-more gens level g most Limit below refused = ExceedsSumsOf-more gens.cols gens.rows level g most below
+    refused
 IsSumsFault-more gens level g most Memory below refused = tt

@@ -1,4 +1,3 @@
-pub mod RisingLaws
 pub mod SumLaws
 mod IndexLaws
 mod LevelLaws

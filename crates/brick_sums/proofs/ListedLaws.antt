@@ -1,9 +1,9 @@
 -- Laws of a list of all sums: its width, and the place of zero.
-use Rattle.std.proofs.Common.{◌≡◌, ℕ, zero, suc, ◌<◌, ◌≤◌, pos, negsuc, Bool, true, false, List, [], ◌∷◌, length, get_or, cond, refl, ap, arith, sym, ◌∙◌, IsSome, Some, None, option_map, slice_get, ◌⊎◌, inl, inr}
+use Rattle.std.proofs.Common.{◌≡◌, ℕ, ◌<◌, ◌≤◌, Bool, true, false, List, [], ◌∷◌, length, get_or, cond, refl, ap, arith}
+use Rattle.std.proofs.Common.{sym, ◌∙◌, IsSome, Some, None, option_map, slice_get, ◌⊎◌, inl, inr}
 use Rattle.std.specs.Prelude.{position, nat_lt}
 use Rattle.std.specs.List.{All, Contains, position_or_len}
 use Rattle.std.proofs.lemmas.Bool.{cases_lt}
-use Rattle.std.proofs.lemmas.Int.{ints}
 use Rattle.std.proofs.lemmas.Bool.Decides.{nat_tests}
 use Rattle.std.proofs.lemmas.List.Elements.{All-map, All-weaker, All-get_or}
 use Rattle.std.proofs.lemmas.List.Quantifiers.{position-Some}
@@ -11,23 +11,15 @@ use Rattle.std.proofs.lemmas.List.Sums.{fails_before_first}
 use Rattle.std.proofs.lemmas.Option.{slice_get-get_or, slice_get-map}
 use Rattle.lattice_theory.specs.Vectors.{Vector, zeros, is_zero}
 use Rattle.lattice_theory.specs.SignedSums.{Sum, AreSums}
+use Rattle.lattice_laws.proofs.Products.{zeros_is, zero-zeros}
+use Rattle.lattice_laws.proofs.VectorLists.{vectors-sum}
 use Rattle.brick_sums.specs.Places.{AreListed, width}
 use Rattle.brick_sums.specs.Levels.{IsSumUpTo}
-use Rattle.brick_sums.proofs.SumLaws.{vectors-sum, IsSignedSum-width}
-
-is_zero-zeros : (t : ℕ) → is_zero (zeros t) ≡ true
-is_zero-zeros zero = refl
-is_zero-zeros (suc t) = is_zero-zeros t
-
--- a vector of zeros is the zero vector of its width
-is_zero-is : (v : Vector) → is_zero v ≡ true → v ≡ zeros (length v)
-is_zero-is [] none = refl
-is_zero-is (pos zero ∷ v) none = ap (λ u. pos 0 ∷ u) (is_zero-is v none)
-is_zero-is (pos (suc n) ∷ v) none = absurd (grind (arith, nat_tests, ints))
-is_zero-is (negsuc n ∷ v) none = absurd (grind (arith, nat_tests, ints))
+use Rattle.brick_sums.proofs.SumLaws.{IsSignedSum-width}
 
 -- where an element passes, there is a first one that does
-position-IsSome : {A : Type 0} (p : A → Bool) (xs : List A) (x : A) → Contains xs x → p x ≡ true → IsSome (position p xs)
+position-IsSome : {A : Type 0} (p : A → Bool) (xs : List A) (x : A) → Contains xs x → p x ≡ true →
+    IsSome (position p xs)
 position-IsSome p xs x (k, within, read) passes =
     there (nat_lt (position_or_len p xs) (length xs)) (below (cases_lt k (position_or_len p xs)))
   where
@@ -56,7 +48,7 @@ module _ (t : ℕ) (gens : List Vector) (g : ℕ) (sums : List Sum) (these : Are
   pub AreSums-position : IsSome (position (λ s. is_zero s.vector) sums)
   AreSums-position =
       let listed : (s : Sum) × Contains sums s × (s.vector ≡ zeros t) = AreSums-zero_listed in
-      position-IsSome (λ s. is_zero s.vector) sums listed.0 listed.1 (ap is_zero listed.2 ∙ is_zero-zeros t)
+      position-IsSome (λ s. is_zero s.vector) sums listed.0 listed.1 (ap is_zero listed.2 ∙ zero-zeros t)
 
   module _ (even : All (λ e. length e ≡ t) gens) where
     -- each listed vector is as wide as the generators
@@ -74,14 +66,16 @@ module _ (t : ℕ) (gens : List Vector) (g : ℕ) (sums : List Sum) (these : Are
         let wide : length s.vector ≡ t =
         All-get_or (λ s. length s.vector ≡ t) sums place (AreSums-zero_listed).0 first.0 AreSums-widths in
         let same : width sums ≡ t = width-All t sums AreSums-widths (omega (arith, first.0)) in
-        let its : s.vector ≡ zeros (width sums) = is_zero-is s.vector first.1 ∙ ap zeros (wide ∙ sym same) in
+        let its : s.vector ≡ zeros (width sums) = zeros_is s.vector first.1 ∙ ap zeros (wide ∙ sym same) in
         let read : slice_get sums place ≡ Some s = slice_get-get_or sums place (AreSums-zero_listed).0 first.0 in
         let each : All (λ s. length s.vector ≡ width sums) sums =
-        All-weaker (λ s. length s.vector ≡ t) (λ s. length s.vector ≡ width sums) (λ s wide. wide ∙ sym same) sums AreSums-widths in
+        All-weaker (λ s. length s.vector ≡ t) (λ s. length s.vector ≡ width sums) (λ s wide. wide ∙ sym same) sums
+        AreSums-widths in
         record {
           rising = these.rising;
           widths = All-map (λ v. length v ≡ width sums) (λ (s : Sum). s.vector) sums each;
           few = few;
           zero_there =
-              slice_get-map (λ (s : Sum). s.vector) sums place ∙ ap (option_map (λ (s : Sum). s.vector)) read ∙ ap Some its;
+              slice_get-map (λ (s : Sum). s.vector) sums place ∙ ap (option_map (λ (s : Sum). s.vector)) read
+              ∙ ap Some its;
         }

@@ -1,5 +1,6 @@
 -- Laws of signed sums: their width, their size and their levels.
-use Rattle.std.proofs.Common.{◌≡◌, ℕ, zero, suc, ◌+◌, ◌*◌, ◌^◌, ◌<◌, ◌≤◌, pos, unsigned_abs, List, [], ◌∷◌, length, map, get_or, refl, ap, arith, sym, subst, ◌∙◌, inl, inr, Some, slice_get, take, option_map}
+use Rattle.std.proofs.Common.{◌≡◌, ℕ, zero, suc, ◌+◌, ◌*◌, ◌^◌, ◌<◌, ◌≤◌, pos, unsigned_abs, List, [], ◌∷◌, length, map}
+use Rattle.std.proofs.Common.{get_or, refl, ap, arith, sym, subst, ◌∙◌, inl, inr, Some, slice_get, take, option_map}
 use Rattle.std.specs.List.{AllByRecursion, All, Contains}
 use Rattle.std.proofs.lemmas.Int.{ints}
 use Rattle.std.proofs.lemmas.Bool.{cases_lt}
@@ -9,15 +10,12 @@ use Rattle.std.proofs.lemmas.List.Elements.{All-more, All-contains, All-from_rec
 use Rattle.lattice_theory.specs.Vectors.{Vector, add, sub, zeros}
 use Rattle.lattice_theory.specs.BasisLimits.{IsNarrow}
 use Rattle.lattice_theory.specs.SignedSums.{Sum, IsSignedSum, HasLevel, AreSums, vectors}
+use Rattle.lattice_laws.proofs.VectorLists.{vectors-sum}
 use Rattle.brick_sums.specs.Levels.{IsSumUpTo}
 
 -- ---- lists
 
 module _ {A : Type 0} where
-  -- what is at a place is in the list
-  pub slice_get-Contains : (xs : List A) (i : ℕ) (x : A) → slice_get xs i ≡ Some x → Contains xs x
-  slice_get-Contains xs i x read = (i, slice_get_within xs i x read, get_or_from_slice_get xs i x x read)
-
   -- what was read at a place, as a mapped list has it
   pub slice_get-map_read : {B : Type 0} (f : A → B) (xs : List A) (i : ℕ) (x : A) → i < length xs →
       x ≡ get_or xs i x → slice_get (map f xs) i ≡ Some (f x)
@@ -30,21 +28,7 @@ module _ {A : Type 0} where
   All-take_more P xs i x read all here =
       All-more P xs i x (slice_get_within xs i x read) all (subst P (sym (get_or_from_slice_get xs i x x read)) here)
 
-  -- what holds of each element holds of the one at a place
-  pub slice_get-All : (P : A → Type 0) (xs : List A) (i : ℕ) (x : A) → slice_get xs i ≡ Some x → All P xs → P x
-  slice_get-All P xs i x read all = All-contains P xs x all (slice_get-Contains xs i x read)
-
 -- ---- lists of sums
-
--- a listed vector is that of a listed sum
-pub vectors-sum : (sums : List Sum) (w : Vector) → Contains (vectors sums) w →
-    (s : Sum) × Contains sums s × (s.vector ≡ w)
-vectors-sum [] w (k, within, read) = absurd (omega arith)
-vectors-sum (s ∷ sums) w (zero, within, read) = (s, (0, omega arith, refl), read)
-vectors-sum (s ∷ sums) w (suc k, within, read) =
-    let found : (r : Sum) × Contains sums r × (r.vector ≡ w) = vectors-sum sums w (k, omega arith, read) in
-    let there : Contains sums found.0 = found.1 in
-    (found.0, (suc there.0, omega (arith, there.1), there.2), found.2)
 
 -- the vector of a listed sum is listed
 pub sum-vectors : (sums : List Sum) (s : Sum) → Contains sums s → Contains (vectors sums) s.vector
@@ -85,24 +69,31 @@ module _ (t : ℕ) (gens : List Vector) (even : All (λ e. length e ≡ t) gens)
 abbrev pub IsWithin : ℕ → Vector → Type 0
 IsWithin most v = AllByRecursion (λ a. unsigned_abs a ≤ most) v
 
-IsWithin-zeros : (most t : ℕ) → IsWithin most (zeros t)
+pub IsWithin-zeros : (most t : ℕ) → IsWithin most (zeros t)
 IsWithin-zeros most zero = tt
 IsWithin-zeros most (suc t) = (omega arith, IsWithin-zeros most t)
 
 IsWithin-add : (m n : ℕ) (u v : Vector) → IsWithin m u → IsWithin n v → IsWithin (m + n) (add u v)
 IsWithin-add m n [] v left right = tt
 IsWithin-add m n (a ∷ u) [] left right = tt
-IsWithin-add m n (a ∷ u) (b ∷ v) left right = (omega (arith, ints, left.0, right.0), IsWithin-add m n u v left.1 right.1)
+IsWithin-add m n (a ∷ u) (b ∷ v) left right = (
+  omega (arith, ints, left.0, right.0),
+  IsWithin-add m n u v left.1 right.1,
+)
 
 IsWithin-sub : (m n : ℕ) (u v : Vector) → IsWithin m u → IsWithin n v → IsWithin (m + n) (sub u v)
 IsWithin-sub m n [] v left right = tt
 IsWithin-sub m n (a ∷ u) [] left right = tt
-IsWithin-sub m n (a ∷ u) (b ∷ v) left right = (omega (arith, ints, left.0, right.0), IsWithin-sub m n u v left.1 right.1)
+IsWithin-sub m n (a ∷ u) (b ∷ v) left right = (
+  omega (arith, ints, left.0, right.0),
+  IsWithin-sub m n u v left.1 right.1,
+)
 
 IsNarrow-IsWithin : (e : Vector) → IsNarrow e → IsWithin (2 ^ 31) e
 IsNarrow-IsWithin e narrow =
     recursion_from_All (λ a. unsigned_abs a ≤ 2 ^ 31) e
-    (All-weaker (λ a. unsigned_abs a < 2 ^ 31) (λ a. unsigned_abs a ≤ 2 ^ 31) (λ a small. omega (arith, small)) e narrow)
+    (All-weaker (λ a. unsigned_abs a < 2 ^ 31) (λ a. unsigned_abs a ≤ 2 ^ 31) (λ a small. omega (arith, small)) e
+    narrow)
 
 module _ (t : ℕ) (gens : List Vector) (narrow : All IsNarrow gens) where
   -- an entry of a sum of n generators is at most n times the largest of an entry
@@ -120,9 +111,14 @@ module _ (t : ℕ) (gens : List Vector) (narrow : All IsNarrow gens) where
       (IsNarrow-IsWithin e (All-contains IsNarrow gens e narrow generator))))
 
   -- with few generators the entries stay small
-  pub IsSignedSum-small : (n : ℕ) (w : Vector) → n < 20000 → IsSignedSum t gens n w → All (λ a. unsigned_abs a < 2 ^ 46) w
+  pub IsSignedSum-small : (n : ℕ) (w : Vector) → n < 20000 → IsSignedSum t gens n w →
+      All (λ a. unsigned_abs a < 2 ^ 46) w
   IsSignedSum-small n w low sum =
-      All-weaker (λ a. unsigned_abs a ≤ n * 2 ^ 31) (λ a. unsigned_abs a < 2 ^ 46) (λ a small. omega (arith, low, small)) w
+      All-weaker (λ a. unsigned_abs a ≤ n * 2 ^ 31) (λ a. unsigned_abs a < 2 ^ 46) (λ a small. omega (
+        arith,
+        low,
+        small,
+      )) w
       (All-from_recursion (λ a. unsigned_abs a ≤ n * 2 ^ 31) w (IsSignedSum-IsWithin n w sum))
 
 -- ---- the levels of sums
@@ -131,7 +127,8 @@ module _ (t : ℕ) (gens : List Vector) where
   -- a sum of so many generators that the list of all sums of fewer lacks has just that level
   pub HasLevel-lacking : (level : ℕ) (sums : List Sum) (w : Vector) →
       ((n : ℕ) (v : Vector) → n ≤ level → IsSignedSum t gens n v → Contains (vectors sums) v) →
-      (Contains (vectors sums) w → ⊥) → IsSignedSum t gens (suc level) w → HasLevel t gens (record { level = suc level; vector = w })
+      (Contains (vectors sums) w → ⊥) → IsSignedSum t gens (suc level) w →
+      HasLevel t gens (record { level = suc level; vector = w })
   HasLevel-lacking level sums w complete lacks sum = record {
     reached = sum;
     least = λ n other. elim (cases_lt n (suc level)) [
@@ -147,8 +144,10 @@ module _ (t : ℕ) (gens : List Vector) where
   AreSums-all level sums these more (suc n) w (before, e, sum, generator, either) =
       let found : (s : Sum) × Contains sums s × (s.vector ≡ before) =
       vectors-sum sums before (AreSums-all level sums these more n before sum) in
-      let known : IsSumUpTo t gens level found.0 = All-contains (IsSumUpTo t gens level) sums found.0 these.sound found.1 in
-      let reached : IsSignedSum t gens found.0.level before = subst (IsSignedSum t gens found.0.level) found.2 known.1.reached in
+      let known : IsSumUpTo t gens level found.0 = All-contains (IsSumUpTo t gens level) sums found.0 these.sound
+      found.1 in
+      let reached : IsSignedSum t gens found.0.level before =
+      subst (IsSignedSum t gens found.0.level) found.2 known.1.reached in
       more.complete (suc found.0.level) w (omega (arith, known.0)) (before, e, reached, generator, either)
 
   -- so it is the list for any larger number of generators
@@ -157,6 +156,7 @@ module _ (t : ℕ) (gens : List Vector) where
   AreSums-stop level g sums below these more = record {
     rising = these.rising;
     sound =
-        All-weaker (IsSumUpTo t gens level) (IsSumUpTo t gens g) (λ s known. (omega (arith, known.0), known.1)) sums these.sound;
+        All-weaker (IsSumUpTo t gens level) (IsSumUpTo t gens g) (λ s known. (omega (arith, known.0), known.1)) sums
+        these.sound;
     complete = λ n w within sum. AreSums-all level sums these more n w sum;
   }

@@ -1,8 +1,7 @@
 //! The sums, made level by level: what one more generator gives that fewer don't is of the next level.
 
-ghost use Rattle.std.specs.Prelude.{◌≡◌, ◌<◌, ◌≤◌, ◌⊎◌, ◌^◌, suc, ◌+ℤ◌, ◌-ℤ◌, [], ◌∷◌, length, All, IsTrue, IfOk, IfErr, OnOk, unsigned_abs};
+ghost use Rattle.std.specs.Prelude.{◌≡◌, ◌<◌, ◌≤◌, ◌⊎◌, ◌^◌, suc, [], ◌∷◌, length, All, IsTrue, IfOk, IfErr, OnOk};
 ghost use Rattle.lattice_theory.specs.Vectors.{is_rising, zeros};
-ghost use Rattle.lattice_theory.specs.Vectors as vector;
 ghost use Rattle.lattice_theory.specs.BasisLimits.{IsNarrow};
 ghost use Rattle.lattice_theory.specs.SignedSums.{IsSignedSum, AreSums, vectors};
 ghost use Rattle.brick_sums.specs.Generators.{AreGenerators};
@@ -16,6 +15,7 @@ use mat_files::Matrix;
 use std::alloc::{AllocError, Global};
 use std::collections::BTreeMap;
 use std::mem;
+use vector_sums::{difference, sum};
 
 /// All sums of at most `g` rows of `gens`, each with either sign and any of them more than once, in
 /// lexicographic order. The empty sum is zero.
@@ -97,7 +97,8 @@ fn all_found(alloc: Global, gens: &Matrix, g: u64, most: u32) -> Result<Found, S
 
 /// The sum of no generators.
 fn zero_found(alloc: Global, cols: u32) -> Result<Found, AllocError>
-    ensures { IfOk result (λ found. (sums_of found.levels.entries ≡ record { level = 0; vector = zeros cols } ∷ []) × (kept found.last.items ≡ zeros cols ∷ [])) }
+    ensures { IfOk result (λ found. (sums_of found.levels.entries ≡ record { level = 0; vector = zeros cols } ∷ [])
+        × (kept found.last.items ≡ zeros cols ∷ [])) }
 {
     let zero = vec![in alloc; 0; cols as usize]?;
     let mut last = Vec::new(alloc);
@@ -119,12 +120,15 @@ fn add_level(
     requires even { All (λ e. length e ≡ gens.now.cols) gens.now.rows }
     requires low { level < 20000 }
     requires listed { AreSums gens.now.cols gens.now.rows level (sums_of found.old.levels.entries) }
-    requires last { AreLast gens.now.cols gens.now.rows level (sums_of found.old.levels.entries) (kept found.old.last.items) }
+    requires last { AreLast gens.now.cols gens.now.rows level (sums_of found.old.levels.entries)
+        (kept found.old.last.items) }
     requires few { length (sums_of found.old.levels.entries) ≤ most }
     ensures sums { OnOk result (AreSums gens.now.cols gens.now.rows (suc level) (sums_of found.new.levels.entries)) }
-    ensures last { OnOk result (AreLast gens.now.cols gens.now.rows (suc level) (sums_of found.new.levels.entries) (kept found.new.last.items)) }
+    ensures last { OnOk result (AreLast gens.now.cols gens.now.rows (suc level) (sums_of found.new.levels.entries)
+        (kept found.new.last.items)) }
     ensures few { OnOk result (length (sums_of found.new.levels.entries) ≤ most) }
-    ensures grown { OnOk result ((sums_of found.new.levels.entries ≡ sums_of found.old.levels.entries) ⊎ (length (sums_of found.old.levels.entries) < length (sums_of found.new.levels.entries))) }
+    ensures grown { OnOk result ((sums_of found.new.levels.entries ≡ sums_of found.old.levels.entries)
+        ⊎ (length (sums_of found.old.levels.entries) < length (sums_of found.new.levels.entries))) }
     ensures refused { IfErr result (IsSumsFault gens.now (suc level) most) }
 {
     let last = mem::replace(&mut found.last, Vec::new(alloc));
@@ -150,15 +154,18 @@ fn add_neighbours(
     requires low { level < 20000 }
     requires sum { IsSignedSum gens.now.cols gens.now.rows level before.now }
     requires so_far { AreSumsSoFar gens.now.cols gens.now.rows level (sums_of found.old.levels.entries) }
-    requires last { AreLast gens.now.cols gens.now.rows (suc level) (sums_of found.old.levels.entries) (kept found.old.last.items) }
-    ensures grown { OnOk result (AreGrown gens.now.cols gens.now.rows level (sums_of found.old.levels.entries) (sums_of found.new.levels.entries)) }
-    ensures last { OnOk result (AreLast gens.now.cols gens.now.rows (suc level) (sums_of found.new.levels.entries) (kept found.new.last.items)) }
+    requires last { AreLast gens.now.cols gens.now.rows (suc level) (sums_of found.old.levels.entries)
+        (kept found.old.last.items) }
+    ensures grown { OnOk result (AreGrown gens.now.cols gens.now.rows level (sums_of found.old.levels.entries)
+        (sums_of found.new.levels.entries)) }
+    ensures last { OnOk result (AreLast gens.now.cols gens.now.rows (suc level) (sums_of found.new.levels.entries)
+        (kept found.new.last.items)) }
     ensures done { OnOk result (HasNeighbours gens.now.rows (sums_of found.new.levels.entries) before.now) }
 {
     for row in 0..gens.rows() {
         let e = gens.row(row + 1);
-        offer(alloc, found, level + 1, plus(alloc, before, e)?)?;
-        offer(alloc, found, level + 1, minus(alloc, before, e)?)?;
+        offer(alloc, found, level + 1, sum(alloc, before, e)?)?;
+        offer(alloc, found, level + 1, difference(alloc, before, e)?)?;
     }
     Ok(())
 }
@@ -166,7 +173,8 @@ fn add_neighbours(
 /// Adds the vector with this level, unless it is there.
 fn offer(alloc: Global, found: &mut Found, level: u64, vector: Vec<i64>) -> Result<(), AllocError>
     requires { IsTrue (is_rising (vectors (sums_of found.old.levels.entries))) }
-    ensures { OnOk result (IsFound (record { level = level; vector = vector.items }) (sums_of found.old.levels.entries) (sums_of found.new.levels.entries) (kept found.old.last.items) (kept found.new.last.items)) }
+    ensures { OnOk result (IsFound (record { level = level; vector = vector.items }) (sums_of found.old.levels.entries)
+        (sums_of found.new.levels.entries) (kept found.old.last.items) (kept found.new.last.items)) }
 {
     if found.levels.contains_key(vector.as_slice()) {
         return Ok(());
@@ -174,52 +182,6 @@ fn offer(alloc: Global, found: &mut Found, level: u64, vector: Vec<i64>) -> Resu
     found.last.push(Vec::from_slice(alloc, &vector)?)?;
     found.levels.insert(vector, level)?;
     Ok(())
-}
-
-/// The sum of two vectors.
-fn plus(alloc: Global, u: &[i64], e: &[i64]) -> Result<Vec<i64>, AllocError>
-    requires same { length u.now ≡ length e.now }
-    requires first { All (λ a. unsigned_abs a < 2 ^ 46) u.now }
-    requires second { All (λ a. unsigned_abs a < 2 ^ 31) e.now }
-    ensures { IfOk result (λ w. w.items ≡ vector.add u.now e.now) }
-{
-    let mut made = Vec::new(alloc);
-    for (x, y) in u.iter().zip(e) {
-        made.push(entry_sum(*x, *y))?;
-    }
-    Ok(made)
-}
-
-/// The difference of two vectors.
-fn minus(alloc: Global, u: &[i64], e: &[i64]) -> Result<Vec<i64>, AllocError>
-    requires same { length u.now ≡ length e.now }
-    requires first { All (λ a. unsigned_abs a < 2 ^ 46) u.now }
-    requires second { All (λ a. unsigned_abs a < 2 ^ 31) e.now }
-    ensures { IfOk result (λ w. w.items ≡ vector.sub u.now e.now) }
-{
-    let mut made = Vec::new(alloc);
-    for (x, y) in u.iter().zip(e) {
-        made.push(entry_difference(*x, *y))?;
-    }
-    Ok(made)
-}
-
-/// The sum of an entry of a vector and one of a generator.
-fn entry_sum(x: i64, y: i64) -> i64
-    requires first { unsigned_abs x < 2 ^ 46 }
-    requires second { unsigned_abs y < 2 ^ 31 }
-    ensures { result ≡ x +ℤ y }
-{
-    x + y
-}
-
-/// The difference of an entry of a vector and one of a generator.
-fn entry_difference(x: i64, y: i64) -> i64
-    requires first { unsigned_abs x < 2 ^ 46 }
-    requires second { unsigned_abs y < 2 ^ 31 }
-    ensures { result ≡ x -ℤ y }
-{
-    x - y
 }
 
 #[cfg(test)]

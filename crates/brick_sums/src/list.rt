@@ -68,7 +68,8 @@ impl Sums {
 
     /// The place of a vector, where it is one of the sums.
     pub fn find(&self, v: &[i64]) -> Option<u32>
-        ensures { MatchOption result (¬ Contains (vectors self.now) v.now) (λ i. slice_get (vectors self.now) i ≡ Some v.now) }
+        ensures { MatchOption result (¬ Contains (vectors self.now) v.now)
+            (λ i. slice_get (vectors self.now) i ≡ Some v.now) }
     {
         self.places.get(v).copied()
     }

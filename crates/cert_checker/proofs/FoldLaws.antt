@@ -1,7 +1,10 @@
 -- Laws of the rules of the claims on all bricks: the first that is broken, and the answer.
-use Rattle.std.proofs.Common.{◌≡◌, ℕ, ◌+◌, ◌≤◌, ◌^◌, nat_eq, nat_le, nat_lt, Bool, true, false, ◌&&◌, List, [], ◌∷◌, ◌++◌, length, Option, Some, None, cond, refl, ap, sym, ◌∙◌, All, IfSome, ℤ, map, unsigned_abs}
+use Rattle.std.proofs.Common.{◌≡◌, ℕ, ◌+◌, ◌≤◌, ◌^◌, nat_eq, nat_le, nat_lt, Bool, true, false, ◌&&◌, List, [], ◌∷◌}
+use Rattle.std.proofs.Common.{◌++◌, length, Option, Some, None, cond, refl, ap, sym, ◌∙◌, All, IfSome, ℤ, map}
+use Rattle.std.proofs.Common.{unsigned_abs}
 use Rattle.std.specs.List.{list_all, AllByRecursion}
 use Rattle.std.proofs.lemmas.List.Elements.{All-nil, All-map, All-weaker, recursion_from_All}
+use Rattle.std.proofs.lemmas.Bool.{and_parts}
 use Rattle.fold_theory.specs.declared.Phase.{Phase}
 use Rattle.fold_theory.specs.declared.Phase.TheVariants.{Closed, Counted}
 use Rattle.run_theory.specs.declared.Rule.{Rule}
@@ -15,15 +18,16 @@ use Rattle.lattice_theory.specs.Lists.{all_zip}
 use Rattle.lattice_theory.specs.Lattices.{is_complete_for}
 use Rattle.run_theory.specs.Links.{complexity}
 use Rattle.run_theory.specs.Certificates.{FoldPart, Certificate, Table, listed_sums, sum_of_row}
-use Rattle.run_theory.specs.Checker.{first_failing, first_broken, fold_rules, parts_fit, point_fits, claimed_verdict, listed_generators, listed_links, layers_hold, starts_at_zero, sums_are_closed}
+use Rattle.run_theory.specs.Checker.{first_failing, first_broken, fold_rules, parts_fit, point_fits, claimed_verdict}
+use Rattle.run_theory.specs.Checker.{listed_generators, listed_links, layers_hold, starts_at_zero, sums_are_closed}
 use Rattle.lattice_theory.specs.SignedSums.{vectors}
+use Rattle.lattice_laws.proofs.Tests.{nat_eq_of, nat_eq_true}
 use Rattle.certificate.specs.Readable.{IsSumRow, IsCell}
 use Rattle.listed_sums.specs.Places.{vectors_of, sums_of, IsModest}
 use Rattle.listed_potentials.specs.Sizes.{AreSmall}
 use Rattle.cert_checker.specs.declared.answer.Check.TheVariants.{Yes, No}
 use Rattle.cert_checker.specs.Answers.{checked}
 use Rattle.cert_checker.specs.Folds.{claim_of, brick_parts_fit, fold_parts_fit, meets_links, list_rules, verdict_of}
-use Rattle.cert_checker.proofs.ShapeLaws.{and_true, nat_eq_true, nat_eq_same}
 
 -- ---- the first test that fails
 
@@ -107,7 +111,8 @@ closed-test p c f cols gens bound sums b t one two three four is same =
 pub all-modest : (rows : List Vector) → All IsSumRow rows → All IsModest (vectors_of rows)
 all-modest rows good =
     All-map IsModest (λ s. s.vector) (map sum_of_row rows)
-    (All-map (λ s. IsModest s.vector) sum_of_row rows (All-weaker IsSumRow (λ row. IsModest (sum_of_row row).vector) here rows good))
+    (All-map (λ s. IsModest s.vector) sum_of_row rows (All-weaker IsSumRow (λ row. IsModest (sum_of_row row).vector)
+    here rows good))
   where
     here : (row : Vector) → IsSumRow row → IsModest (sum_of_row row).vector
     here [] h = All-nil (λ a. unsigned_abs a ≤ 2 ^ 47)
@@ -128,7 +133,7 @@ table-even : (n : ℕ) (cols : ℕ) → cols ≡ n → (rows : List (List (Optio
     → AllByRecursion (λ row. length row ≡ cols) rows → list_all (λ row. nat_eq (length row) n) rows ≡ true
 table-even n cols same [] h = refl
 table-even n cols same (row ∷ rows) h =
-    ap (λ t. t && list_all (λ r. nat_eq (length r) n) rows) (nat_eq_same (length row) n (h.0 ∙ same))
+    ap (λ t. t && list_all (λ r. nat_eq (length r) n) rows) (nat_eq_of (length row) n (h.0 ∙ same))
     ∙ table-even n cols same rows h.1
 
 pub and-false : (a b : Bool) → b ≡ false → (a && b) ≡ false
@@ -140,7 +145,9 @@ pub cols-fit : (p : Program) (f : FoldPart) (generators : ℕ) → fold_parts_fi
     → f.potentials.cols ≡ length f.sums.rows
 cols-fit p f generators h =
     nat_eq_true f.potentials.cols (length f.sums.rows)
-    (and_true (has_shape (length f.links.rows) (generators + length p.link.rows) f.links && has_shape (length f.sums.rows) (1 + p.brick.cols) f.sums && nat_eq (length f.potentials.rows) (1 + length p.bricks)) (nat_eq f.potentials.cols (length f.sums.rows)) h).1
+    (and_parts (has_shape (length f.links.rows) (generators + length p.link.rows) f.links && has_shape
+    (length f.sums.rows) (1 + p.brick.cols) f.sums && nat_eq (length f.potentials.rows) (1 + length p.bricks))
+    (nat_eq f.potentials.cols (length f.sums.rows)) h).1
 
 regroup : (x c d e g h : Bool) → (g ≡ true → h ≡ true)
     → (x && c && d && e && g && h) ≡ (x && (c && d && e && g))
@@ -172,7 +179,8 @@ module _ (p : Program) (phase : Phase) (c : Certificate) (f : FoldPart) where
   parts-are generators many even =
       regroup (brick_parts_fit p c)
       (has_shape (length f.links.rows) (length (listed_generators p c) + length p.link.rows) f.links)
-      (has_shape (length f.sums.rows) (1 + p.brick.cols) f.sums) (nat_eq (length f.potentials.rows) (1 + length p.bricks))
+      (has_shape (length f.sums.rows) (1 + p.brick.cols) f.sums)
+      (nat_eq (length f.potentials.rows) (1 + length p.bricks))
       (nat_eq f.potentials.cols (length f.sums.rows))
       (list_all (λ row. nat_eq (length row) (length f.sums.rows)) f.potentials.rows)
       (λ same. table-even (length f.sums.rows) f.potentials.cols (nat_eq_true _ _ same) f.potentials.rows
@@ -193,7 +201,8 @@ module _ (p : Program) (phase : Phase) (c : Certificate) (f : FoldPart) where
       → (parts_fit p c f && point_fits p phase c.point.rows) ≡ false
   not-within fails =
       and-false (parts_fit p c f) (point_fits p phase c.point.rows)
-      (λ k. fails k && all_zip (λ b v. nat_eq (brick_residual p b v) 0) p.bricks c.point.rows && meets_links p phase c.point.rows)
+      (λ k. fails k && all_zip (λ b v. nat_eq (brick_residual p b v) 0) p.bricks c.point.rows && meets_links p phase
+      c.point.rows)
 
   pub misses-rows : all_zip (λ b v. nat_eq (brick_residual p b v) 0) p.bricks c.point.rows ≡ false
       → (parts_fit p c f && point_fits p phase c.point.rows) ≡ false
@@ -214,10 +223,12 @@ module _ (p : Program) (phase : Phase) (c : Certificate) (f : FoldPart) where
   -- the sixth rule, as it is found
   pub held-test : (x : Bricks) (sums : Matrix) (table : Table) (b t : Bool) → x ≡ c.point.rows → sums ≡ f.sums
       → table ≡ f.potentials
-      → b ≡ (layers_hold p phase (vectors_of sums.rows) (link_rests p x) p.bricks x table.rows && starts_at_zero p (vectors_of sums.rows) table.rows)
+      → b ≡ (layers_hold p phase (vectors_of sums.rows) (link_rests p x) p.bricks x table.rows && starts_at_zero p
+      (vectors_of sums.rows) table.rows)
       → b ≡ t → potentials_test p phase c f ≡ t
   held-test x sums table b t one two three is same =
-      sym (λ k. layers_hold p phase (vectors_of (two k).rows) (link_rests p (one k)) p.bricks (one k) (three k).rows && starts_at_zero p (vectors_of (two k).rows) (three k).rows)
+      sym (λ k. layers_hold p phase (vectors_of (two k).rows) (link_rests p (one k)) p.bricks (one k) (three k).rows &&
+      starts_at_zero p (vectors_of (two k).rows) (three k).rows)
       ∙ sym is ∙ same
 
   -- ---- the answer
@@ -240,7 +251,8 @@ module _ (p : Program) (phase : Phase) (c : Certificate) (f : FoldPart) where
   pub first-breaks : c.claim ≡ claim_of phase → c.fold ≡ Some f
       → (parts_fit p c f && point_fits p phase c.point.rows) ≡ false → No C1 ≡ checked p c
   first-breaks claims has fails =
-      answer-no C1 claims has (first-of C1 (parts_fit p c f && point_fits p phase c.point.rows) (list_rules p phase c f ++ end_rules p phase c f) fails)
+      answer-no C1 claims has (first-of C1 (parts_fit p c f && point_fits p phase c.point.rows) (list_rules p phase c f
+      ++ end_rules p phase c f) fails)
 
   -- where it holds, a rule on the lists
   pub list-breaks : (rule : Rule) → c.claim ≡ claim_of phase → c.fold ≡ Some f
@@ -275,7 +287,8 @@ module _ (p : Program) (phase : Phase) (c : Certificate) (f : FoldPart) where
       → potentials_test p phase c f ≡ true → x ≡ c.point.rows → verdict_of p phase x ≡ checked p c
   last-decides x claims has fits none held is =
       ap (verdict_of p phase) is
-      ∙ by phase claims (first_broken-is claims has ∙ rest-is fits none ∙ next-of C6 (potentials_test p phase c f) (seventh p phase c) held)
+      ∙ by phase claims (first_broken-is claims has ∙ rest-is fits none
+      ∙ next-of C6 (potentials_test p phase c f) (seventh p phase c) held)
     where
       on : (m : ℕ) (b : Bool) → cond b (Yes (InfeasibleLink m)) (No C7)
           ≡ elim (cond b None (Some C7)) [ None ↦ Yes (InfeasibleLink m) | Some r ↦ No r ]

@@ -1,17 +1,16 @@
 -- Laws of the point of a certificate: its rows one after the other, and the entries that make it.
-use Rattle.std.proofs.Common.{◌≡◌, ℕ, ◌+◌, ◌-◌, ◌*◌, ℤ, Bool, true, false, List, [], ◌∷◌, length, drop, flat_map, Option, Some, None, arith, sym, ◌∙◌, subst, slice_get, All, IfSome, IsSome}
+use Rattle.std.proofs.Common.{◌≡◌, ℕ, ◌+◌, ◌-◌, ◌*◌, ℤ, Bool, true, false, List, length, drop, flat_map, Option, Some}
+use Rattle.std.proofs.Common.{None, arith, sym, ◌∙◌, subst, slice_get, All, IfSome, IsSome}
 use Rattle.std.proofs.lemmas.List.Elements.{recursion_from_All}
 use Rattle.lattice_theory.specs.Lists.{all_zip}
 use Rattle.lattice_theory.specs.Vectors.{Vector}
 use Rattle.lattice_theory.specs.Matrices.{rows_of}
-use Rattle.fold_theory.specs.Programs.{Program, Brick, Bricks, AreWithin, is_within}
+use Rattle.fold_theory.specs.Programs.{Program, Brick, Bricks, AreWithin}
 use Rattle.fold_program.specs.Places.{OfBrick}
 use Rattle.fold_program.specs.Points.{IsPoint}
-use Rattle.fold_program.proofs.PlaceLaws.{within_is}
 use Rattle.listed_links.proofs.RowLaws.{Stands, stands-length, stands-rows}
 use Rattle.listed_potentials.proofs.RowLaws.{zip-at}
 use Rattle.cert_checker.specs.Folds.{IsPointOf}
-use Rattle.cert_checker.proofs.ShapeLaws.{and_true}
 
 -- a row that passes the test is one fewer to test
 pub row-passes : (test : Brick → Vector → Bool) (p : Program) (rows : Bricks) (i : ℕ) (v : Vector) (b : Bool)
@@ -38,7 +37,8 @@ row-fails test p rows i v b found there fails so_far =
 pub point-made : (p : Program) (rows : Bricks) (entries : List ℤ) (o : Option Bricks) → length rows ≡ length p.bricks
     → All (λ row. length row ≡ p.link.cols) rows → entries ≡ flat_map (λ row. row) rows → AreWithin p.bricks rows
     → IfSome o (IsPoint p entries)
-    → (length entries ≡ length p.bricks * p.link.cols → AreWithin p.bricks (rows_of (length p.bricks) p.link.cols entries)
+    → (length entries ≡ length p.bricks * p.link.cols → AreWithin p.bricks
+    (rows_of (length p.bricks) p.link.cols entries)
     → IsSome o) → IsPointOf rows o
 point-made p rows entries o bricks widths are within = by o
   where
@@ -61,12 +61,3 @@ point-made p rows entries o bricks widths are within = by o
         (subst (AreWithin p.bricks) (sym same) within) in
         absurd (cc)
     by (Some x) made some = made.value ∙ same
-
--- where each row passes the test of its brick, the point is within the bounds
-pub all-within : (bs : List Brick) (x : Bricks) → all_zip is_within bs x ≡ true → AreWithin bs x
-all-within [] [] h = tt
-all-within [] (v ∷ x) h = absurd (cc)
-all-within (b ∷ bs) [] h = absurd (cc)
-all-within (b ∷ bs) (v ∷ x) h =
-    let parts = and_true (is_within b v) (all_zip is_within bs x) h in
-    (within_is b v parts.0, all-within bs x parts.1)

@@ -5,12 +5,7 @@ use Rattle.std.proofs.lemmas.Bool.Decides.{nat_tests}
 use Rattle.std.proofs.lemmas.List.Elements.{recursion_from_All}
 use Rattle.lattice_theory.specs.Vectors.{Vector}
 use Rattle.lattice_theory.specs.Matrices.{Matrix, has_shape}
-
-pub nat_eq_true : (a b : ℕ) → nat_eq a b ≡ true → a ≡ b
-nat_eq_true a b h = grind (arith, nat_tests)
-
-pub nat_eq_same : (m n : ℕ) → m ≡ n → nat_eq m n ≡ true
-nat_eq_same m n same = grind (arith, nat_tests)
+use Rattle.lattice_laws.proofs.Tests.{nat_eq_true}
 
 -- where the rows are as long as the matrix says, two numbers are the shape
 pub has_shape-even : (rows cols : ℕ) (m : Matrix) → All (λ row. length row ≡ m.cols) m.rows →
@@ -31,8 +26,3 @@ has_shape-even rows cols m even = by (nat_eq (length m.rows) rows) (nat_eq m.col
         (recursion_from_All (λ row. length row ≡ m.cols) m.rows even)
     by true false same = refl
     by false b same = refl
-
--- both tests hold
-pub and_true : (a b : Bool) → (a && b) ≡ true → (a ≡ true) × (b ≡ true)
-and_true true b h = (refl, h)
-and_true false b h = (h, absurd (cc))

@@ -1,7 +1,7 @@
 -- Laws of the steps from a point of a brick by the first parts of listed elements.
-use Rattle.std.proofs.Common.{◌≡◌, ℕ, ◌+◌, ◌-◌, ◌<◌, ◌≤◌, ◌^◌, unsigned_abs, Bool, true, false}
-use Rattle.std.proofs.Common.{◌&&◌, ◌||◌, not, nat_le, nat_lt, List, length, take, drop, refl, ap, arith}
-use Rattle.std.proofs.Common.{sym, ◌∙◌, subst, All, Some, slice_get, option_map}
+use Rattle.std.proofs.Common.{◌≡◌, ℕ, ◌+◌, ◌-◌, ◌<◌, ◌≤◌, ◌^◌, unsigned_abs, Bool, true, false, ◌&&◌, ◌||◌, not, nat_le}
+use Rattle.std.proofs.Common.{nat_lt, List, length, take, drop, refl, ap, arith, sym, ◌∙◌, subst, All, Some, slice_get}
+use Rattle.std.proofs.Common.{option_map}
 use Rattle.std.specs.List.{list_all}
 use Rattle.std.proofs.lemmas.Bool.Decides.{nat_tests}
 use Rattle.std.proofs.lemmas.List.{length-map}
@@ -11,9 +11,10 @@ use Rattle.lattice_theory.specs.Vectors.{Vector, add, sub}
 use Rattle.lattice_theory.specs.Lattices.{first_parts}
 use Rattle.lattice_theory.specs.BasisLimits.{IsNarrow}
 use Rattle.fold_theory.specs.Programs.{Program, Brick, is_within, brick_residual}
+use Rattle.lattice_laws.proofs.Places.{slice_get-All}
 use Rattle.fold_program.specs.Places.{OfBrick}
 use Rattle.cert_checker.specs.Steps.{is_better, is_best}
-use Rattle.complete_lists.proofs.ScanLaws.{same_row, at-All, list_all-at, list_all-end}
+use Rattle.complete_lists.proofs.ScanLaws.{same_row, list_all-at, list_all-end}
 
 -- ---- a step from a point
 
@@ -21,7 +22,7 @@ use Rattle.complete_lists.proofs.ScanLaws.{same_row, at-All, list_all-at, list_a
 pub narrow-part : (rows : List Vector) (i n : ℕ) (z : Vector) → slice_get rows i ≡ Some z → All IsNarrow rows →
     IsNarrow (take n z)
 narrow-part rows i n z there narrow = All-take (λ a. unsigned_abs a < 2 ^ 31) n z
-    (at-All IsNarrow rows i z there narrow)
+    (slice_get-All IsNarrow rows i z there narrow)
 
 -- ---- one member after the other
 

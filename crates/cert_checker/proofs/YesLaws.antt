@@ -10,7 +10,8 @@ use Rattle.cert_checker.specs.declared.answer.Check.{Check}
 use Rattle.cert_checker.specs.declared.answer.Check.TheVariants.{Yes, No}
 use Rattle.cert_checker.specs.Answers.{checked, IsTrueYes}
 
-by_rule : (p : Program) (c : Certificate) (o : Option Rule) → first_broken p c ≡ o → (Accept p c → Holds p (claimed_verdict p c))
+by_rule : (p : Program) (c : Certificate) (o : Option Rule) → first_broken p c ≡ o →
+    (Accept p c → Holds p (claimed_verdict p c))
     → IsTrueYes p (elim o [ None ↦ Yes (claimed_verdict p c) | Some rule ↦ No rule ])
 by_rule p c None is holds = holds is
 by_rule p c (Some rule) is holds = tt

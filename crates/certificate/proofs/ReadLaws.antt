@@ -1,16 +1,14 @@
 -- What is read of the parts about the linking rows is within their limits.
-use Rattle.std.proofs.Common.{◌≡◌, ℕ, zero, suc, ◌*◌, ◌+◌, ◌^◌, ◌≤◌, ℤ, pos, ◌≤ℤ◌, unsigned_abs, Bool, true, false}
-use Rattle.std.proofs.Common.{cond, List, [], ◌∷◌}
-use Rattle.std.proofs.Common.{◌++◌, length, take, drop, All, Option, Some, None, Result, Ok, codes, refl, ap, subst}
-use Rattle.std.proofs.Common.{sym, ◌∙◌, arith, add-one}
+use Rattle.std.proofs.Common.{◌≡◌, ℕ, zero, suc, ◌*◌, ◌+◌, ◌^◌, ◌≤◌, ℤ, pos, unsigned_abs, Bool, true, false, cond}
+use Rattle.std.proofs.Common.{List, [], ◌∷◌, ◌++◌, length, All, Option, Some, None, Ok, codes, refl, ap, subst, sym}
+use Rattle.std.proofs.Common.{◌∙◌, arith, add-one}
 use Rattle.std.specs.Str.{bytes_eq}
-use Rattle.std.proofs.lemmas.List.{take-append-le, drop-append-le, take_all, drop_all, append-nil, length-drop}
 use Rattle.std.proofs.lemmas.List.{length-append}
 use Rattle.std.proofs.lemmas.Int.{ints}
 use Rattle.lattice_theory.specs.Vectors.{Vector}
 use Rattle.lattice_theory.specs.Matrices.{rows_of}
+use Rattle.lattice_laws.proofs.VectorLists.{rows_of-push}
 use Rattle.mat_files.specs.declared.fault.FaultKind.TheVariants as token
-use Rattle.mat_files.specs.declared.fault.TokenFault.{TokenFault}
 use Rattle.mat_files.specs.Tokens.{Token, Left, and_then}
 use Rattle.mat_files.specs.Reading.{number_at, next_by, next_number, next_count, repeated, IsAdded}
 use Rattle.mat_files.proofs.RepeatLaws.{both_ok, same_ok, repeated_many, repeated_all, one_more_read}
@@ -56,20 +54,6 @@ pub sums_are : (cols rows : ℕ) (now after : Left) (sums : List Vector)
 sums_are cols rows now after sums is =
     repeated_all (next_sum cols) IsSumRow (λ before behind row reads. (next_sum_is cols before behind row reads).limits)
     rows now after sums is
-
--- a row more behind rows
-pub rows_of-push : (n cols : ℕ) (entries row : Vector) → length entries ≡ n * cols → length row ≡ cols
-    → rows_of (suc n) cols (entries ++ row) ≡ rows_of n cols entries ++ row ∷ []
-rows_of-push zero cols [] row all width = ap (λ (r : Vector). r ∷ []) (take_all cols row (omega arith))
-rows_of-push zero cols (a ∷ entries) row all width = absurd (omega arith)
-rows_of-push (suc n) cols entries row all width =
-    let enough : cols ≤ length entries = omega arith in
-    let left : length (drop cols entries) ≡ n * cols = omega (arith, length-drop cols entries) in
-    rw (
-      take-append-le cols entries row enough,
-      drop-append-le cols entries row enough,
-      rows_of-push n cols (drop cols entries) row left width,
-    ) refl
 
 -- a row of sums more
 pub one_more_sum : (cols i : ℕ) (start now after : Left) (before entries : Vector)

@@ -1,11 +1,9 @@
 -- What is printed of a certificate is read again.
-use Rattle.std.proofs.Common.{◌≡◌, ℕ, zero, suc, ◌+◌, ◌*◌, ◌^◌, ◌<◌, ◌≤◌, ◌-◌, ℤ, pos, negsuc, unsigned_abs, true}
-use Rattle.std.proofs.Common.{false, not, List, [], ◌∷◌}
-use Rattle.std.proofs.Common.{◌++◌, length, get_or, flat_map, Option, Some, None, Ok, refl, ap, sym, ◌∙◌, subst}
-use Rattle.std.proofs.Common.{append_assoc, arith}
-use Rattle.std.proofs.Common.{All, codes, inl, inr}
+use Rattle.std.proofs.Common.{◌≡◌, ℕ, suc, ◌*◌, ◌^◌, ◌<◌, ◌≤◌, ◌-◌, ℤ, pos, negsuc, unsigned_abs, true, false, not}
+use Rattle.std.proofs.Common.{List, [], ◌∷◌, ◌++◌, length, get_or, flat_map, Option, Some, None, Ok, refl, ap, sym, ◌∙◌}
+use Rattle.std.proofs.Common.{subst, append_assoc, arith, All, codes, inl, inr}
 use Rattle.std.specs.Fmt.{decimal, signed_decimal}
-use Rattle.std.specs.List.{AllByRecursion, list_all}
+use Rattle.std.specs.List.{list_all}
 use Rattle.std.specs.Str.{bytes_eq}
 use Rattle.std.proofs.lemmas.Bool.{leb-true, le-leb, cases_Bool}
 use Rattle.std.proofs.lemmas.Int.{ints}
@@ -22,21 +20,16 @@ use Rattle.mat_files.specs.Tokens.{is_white, Left, and_then, number_of}
 use Rattle.mat_files.specs.Reading.{Read, number_at, next_word, next_by, next_number, next_count, repeated, next_matrix}
 use Rattle.mat_files.specs.MatrixText.{row_text, matrix_text}
 use Rattle.mat_files.proofs.WordLaws.{IsWord, word_of, first_word, printed_count, printed_number}
-use Rattle.mat_files.proofs.PrintingLaws.{line}
 use Rattle.mat_files.proofs.PrintedLaws.{Reads, Reads-then, Reads-map, Reads-word, Reads-count, Reads-token, Reads-each}
-use Rattle.mat_files.proofs.PrintedLaws.{Reads-lines}
-use Rattle.mat_files.proofs.PrintedLaws.{Reads-one_line, Reads-entries, IsPrintable, IsPrintableRow, entry_printed}
-use Rattle.mat_files.proofs.PrintedLaws.{number_at-printed, count_at-printed}
-use Rattle.mat_files.proofs.PrintedLaws.{left_from, only-printed}
+use Rattle.mat_files.proofs.PrintedLaws.{Reads-lines, Reads-one_line, Reads-entries, IsPrintable, IsPrintableRow}
+use Rattle.mat_files.proofs.PrintedLaws.{entry_printed, number_at-printed, count_at-printed, left_from, only-printed}
 use Rattle.certificate.specs.CertificateText.{cell_text, cells_text, table_text, fold_text, claim_text}
-use Rattle.certificate.specs.CertificateText.{certificate_text, next_size}
-use Rattle.certificate.specs.CertificateText.{next_part, next_bound, next_sum, next_sums, cell_at, width_at}
-use Rattle.certificate.specs.CertificateText.{next_potentials, next_fold}
-use Rattle.certificate.specs.CertificateText.{next_head, next_claim, claim_after, fold_after, next_certificate}
-use Rattle.certificate.specs.CertificateText.{cert_answer, parsed_certificate}
-use Rattle.certificate.specs.Readable.{IsSumRow, IsCell, IsWithin, IsWithinTable, IsReadablePart}
-use Rattle.certificate.specs.Readable.{IsNumbered}
-use Rattle.certificate.specs.Readable.{FitsClaim, IsReadable}
+use Rattle.certificate.specs.CertificateText.{certificate_text, next_size, next_part, next_bound, next_sum, next_sums}
+use Rattle.certificate.specs.CertificateText.{cell_at, width_at, next_potentials, next_fold, next_head, next_claim}
+use Rattle.certificate.specs.CertificateText.{claim_after, fold_after, next_certificate, cert_answer}
+use Rattle.certificate.specs.CertificateText.{parsed_certificate}
+use Rattle.certificate.specs.Readable.{IsSumRow, IsCell, IsWithin, IsWithinTable, IsReadablePart, IsNumbered, FitsClaim}
+use Rattle.certificate.specs.Readable.{IsReadable}
 use Rattle.certificate.proofs.TableLaws.{table_rows-all}
 
 -- ---- words, and sizes

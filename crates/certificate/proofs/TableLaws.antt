@@ -1,7 +1,6 @@
 -- Laws of the rows of a table whose cells stand row by row.
 use Rattle.std.proofs.Common.{◌≡◌, ℕ, zero, suc, ◌-◌, ◌*◌, ◌+◌, ◌<◌, ℤ, List, [], ◌∷◌, length, take, drop, Option, Some}
-use Rattle.std.proofs.Common.{slice_get, refl, ap}
-use Rattle.std.proofs.Common.{arith, ◌∙◌, length-take, flat_map, All}
+use Rattle.std.proofs.Common.{slice_get, refl, ap, arith, ◌∙◌, length-take, flat_map, All}
 use Rattle.std.proofs.lemmas.List.{drop-drop, length-drop, take_at, drop_at}
 use Rattle.std.proofs.lemmas.List.Elements.{All-nil, All-cons, All-take, All-drop}
 use Rattle.std.specs.List.{AllByRecursion}

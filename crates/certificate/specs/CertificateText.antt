@@ -1,6 +1,6 @@
 -- The text of a certificate, and what is read back from its tokens.
-use Rattle.std.specs.Prelude.{◌≡◌, ℕ, zero, suc, ◌-◌, ◌*◌, ◌^◌, ◌⊎◌, ℤ, pos, nat_le, List, [], ◌∷◌, ◌++◌}
-use Rattle.std.specs.Prelude.{map, length, flat_map, cond, Option, Some, None, Result, Ok, Err, bytes_eq, codes}
+use Rattle.std.specs.Prelude.{◌≡◌, ℕ, zero, suc, ◌-◌, ◌*◌, ◌^◌, ◌⊎◌, ℤ, pos, nat_le, List, [], ◌∷◌, ◌++◌, map, length}
+use Rattle.std.specs.Prelude.{flat_map, cond, Option, Some, None, Result, Ok, Err, bytes_eq, codes}
 use Rattle.std.specs.Fmt.{decimal, signed_decimal}
 use Rattle.std.specs.List.{join_with_byte}
 use Rattle.lattice_theory.specs.Vectors.{Vector}
@@ -13,8 +13,7 @@ use Rattle.mat_files.specs.declared.fault.FaultKind.TheVariants as token
 use Rattle.mat_files.specs.declared.fault.TokenFault.{TokenFault}
 use Rattle.mat_files.specs.Tokens.{Token, Left, and_then}
 use Rattle.mat_files.specs.Reading.{Read, refused, number_at, count_at, next_token, next_by, next_word, next_number}
-use Rattle.mat_files.specs.Reading.{next_count}
-use Rattle.mat_files.specs.Reading.{repeated, next_matrix, only}
+use Rattle.mat_files.specs.Reading.{next_count, repeated, next_matrix, only}
 use Rattle.mat_files.specs.MatrixText.{matrix_text}
 use Rattle.certificate.specs.declared.fault.CertKind.{CertKind}
 use Rattle.certificate.specs.declared.fault.CertKind.TheVariants as kind

@@ -1,6 +1,5 @@
 -- The limits of what a certificate holds, which its type keeps: within them it can be printed and read back.
-use Rattle.std.specs.Prelude.{◌≡◌, ℕ, ◌*◌, ◌^◌, ◌≤◌, ℤ, pos, ◌≤ℤ◌, unsigned_abs, List, [], ◌∷◌, length, Option, Some}
-use Rattle.std.specs.Prelude.{None}
+use Rattle.std.specs.Prelude.{◌≡◌, ℕ, ◌*◌, ◌^◌, ◌≤◌, ℤ, pos, ◌≤ℤ◌, unsigned_abs, [], ◌∷◌, length, Option, Some, None}
 use Rattle.std.specs.Prelude.{All}
 use Rattle.lattice_theory.specs.Vectors.{Vector, IsBoundedRow}
 use Rattle.lattice_theory.specs.Matrices.{Matrix}

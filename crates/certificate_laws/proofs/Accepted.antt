@@ -1,5 +1,6 @@
 -- The certificate of an outcome breaks no rule.
-use Rattle.std.proofs.Common.{◌≡◌, ℕ, ◌<◌, nat_lt, ℤ, true, List, [], ◌∷◌, length, Option, Some, None, refl, ap, arith, sym, ◌∙◌, subst}
+use Rattle.std.proofs.Common.{◌≡◌, ℕ, ◌<◌, nat_lt, ℤ, true, List, [], ◌∷◌, length, Option, Some, None, refl, ap, arith}
+use Rattle.std.proofs.Common.{sym, ◌∙◌, subst}
 use Rattle.std.specs.List.{AllByRecursion}
 use Rattle.fold_theory.specs.declared.Phase.{Phase}
 use Rattle.fold_theory.specs.declared.Phase.TheVariants.{Closed, Counted}
@@ -9,15 +10,16 @@ use Rattle.fold_theory.specs.declared.Verdict.{Verdict}
 use Rattle.fold_theory.specs.declared.Verdict.TheVariants.{Optimal, InfeasibleBrick, InfeasibleLink}
 use Rattle.lattice_theory.specs.SignedSums.{Sum, vectors}
 use Rattle.lattice_laws.proofs.SlackBases.{slack_basis_unique}
+use Rattle.lattice_laws.proofs.Tests.{nat_lt_of}
 use Rattle.fold_theory.specs.Programs.{Program, Bricks, IsBrick, IsProgram, link_rests, link_miss}
 use Rattle.run_theory.specs.Links.{Bases, AreBases, fold_complexity}
 use Rattle.run_theory.specs.BrickSums.{AreBrickSums}
 use Rattle.run_theory.specs.BrickRuns.{BrickMove}
 use Rattle.run_theory.specs.Certificates.{Certificate, FoldPart}
-use Rattle.run_theory.specs.Outcomes.{RunRecord, IsRecorded, AllSettle, CountedPart, ClosedPart, Outcome, IsOutcome, IsCertificate, IsFoldPart, matrix_of_bricks, point_matrix}
+use Rattle.run_theory.specs.Outcomes.{RunRecord, IsRecorded, AllSettle, CountedPart, ClosedPart, Outcome, IsOutcome}
+use Rattle.run_theory.specs.Outcomes.{IsCertificate, IsFoldPart, matrix_of_bricks, point_matrix}
 use Rattle.run_theory.specs.Checker.{fold_rules, first_failing, Accept}
 use Rattle.piece_laws.proofs.Starts.{bricks_of}
-use Rattle.certificate_laws.proofs.Passing.{nat_lt_of}
 use Rattle.certificate_laws.proofs.StuckBricks.{stuck_certificate, first_stuck_accepted}
 use Rattle.outcome_laws.proofs.OneOutcome.{bases_unique, brick_sums_unique}
 use Rattle.certificate_laws.proofs.BrickSums.{listed_still}

@@ -1,6 +1,7 @@
 -- No walk of length 1 from the zero vector lowers the phase cost where the rule has no step: a walk that lowers it is a
 -- step that augments. So the potential at the beginning is not negative.
-use Rattle.std.proofs.Common.{◌≡◌, ℕ, ◌^◌, nat_eq, ℤ, pos, negsuc, ◌-ℤ◌, ◌≤ℤ◌, Bool, true, false, cond, List, [], ◌∷◌, length, refl, ap, arith, sym, ◌∙◌, Contains, Option, Some, None, inl, inr}
+use Rattle.std.proofs.Common.{◌≡◌, ℕ, ◌^◌, nat_eq, ℤ, pos, negsuc, ◌-ℤ◌, ◌≤ℤ◌, Bool, true, false, cond, List, [], ◌∷◌}
+use Rattle.std.proofs.Common.{length, refl, ap, arith, sym, ◌∙◌, Contains, Option, Some, None, inl, inr}
 use Rattle.std.proofs.lemmas.Int.{ints}
 use Rattle.std.proofs.lemmas.Bool.Decides.{nat_tests}
 use Rattle.std.proofs.lemmas.List.Elements.{recursion_from_All}
@@ -8,40 +9,23 @@ use Rattle.std.specs.List.{list_all, AllByRecursion}
 use Rattle.fold_theory.specs.declared.Phase.{Phase}
 use Rattle.fold_theory.specs.declared.Phase.TheVariants.{Closed, Counted}
 use Rattle.lattice_theory.specs.Lists.{sum_zip}
-use Rattle.lattice_theory.specs.Vectors.{Vector, is_zero, add, sub, scale, zeros}
+use Rattle.lattice_theory.specs.Vectors.{Vector, is_zero, sub, scale, zeros}
 use Rattle.lattice_theory.specs.Matrices.{product}
-use Rattle.lattice_laws.proofs.Tests.{and_true, true_or_false, int_le_of}
-use Rattle.lattice_laws.proofs.Products.{length-zeros, zeros_is}
+use Rattle.lattice_laws.proofs.Tests.{true_or_false, int_le_of}
+use Rattle.lattice_laws.proofs.Products.{length-zeros}
 use Rattle.fold_theory.specs.Programs.{Program, Brick, Bricks, IsBrick, brick_cost, link_rests, link_miss, phase_cost}
 use Rattle.run_theory.specs.Steps.{moved, AllowsEnd, NoneAugments}
 use Rattle.run_theory.specs.Walks.{walk_change, walk_end, WalkCosts}
 use Rattle.run_theory.specs.Checker.{at_most, starts_at_zero}
-use Rattle.lattice_laws.proofs.Sums.{add_zeros, zeros_add, sub_sub}
+use Rattle.lattice_laws.proofs.Sums.{zeros_add, sub_sub}
 use Rattle.lattice_laws.specs.VectorLists.{sum_of, AreSized}
 use Rattle.lattice_laws.proofs.Multiples.{scale_once}
 use Rattle.lattice_laws.proofs.VectorLists.{length-sum}
 use Rattle.piece_laws.specs.Points.{forth}
-use Rattle.piece_laws.proofs.Points.{forth-sized, rests_are, image-forth, walk_end_is}
-use Rattle.certificate_laws.proofs.BrickRuns.{one_step, one_length}
+use Rattle.piece_laws.proofs.Points.{forth-sized, rests_are, image-forth, walk_end_is, moved_once, forth_none}
+use Rattle.certificate_laws.proofs.BrickRuns.{one_length}
 use Rattle.certificate_laws.proofs.BrickSums.{IsStill}
 use Rattle.certificate_laws.proofs.Potentials.{IsLeastWalk, LeastRows, some_rows, first_row, has_cell, cell_at}
-
--- a move of length 1
-moved_is : (x h : Bricks) → moved x 0 h ≡ forth x h
-moved_is [] h = refl
-moved_is (v ∷ x) [] = refl
-moved_is (v ∷ x) (d ∷ h) = λ i. one_step v d i ∷ moved_is x h i
-
--- the move that is 0 in each brick
-zero_moved : (t : ℕ) (x h : Bricks) → AreSized t x → AreSized t h → length h ≡ length x → list_all is_zero h ≡ true →
-    forth x h ≡ x
-zero_moved t [] h sx sh size none = refl
-zero_moved t (v ∷ x) [] sx sh size none = absurd (omega arith)
-zero_moved t (v ∷ x) (d ∷ h) sx sh size none =
-    let both = and_true (is_zero d) (list_all is_zero h) none in
-    let zero : d ≡ zeros t = zeros_is d both.0 ∙ ap zeros sh.0 in
-    let here : add v d ≡ v = ap (add v) zero ∙ add_zeros v t sx.0 in
-    λ i. here i ∷ zero_moved t x h sx.1 sh.1 (omega arith) both.1 i
 
 -- the changes along a walk are the change of the cost, or 0 where the cost does not count
 change_closed : (bs : List Brick) (x h : Bricks) → length x ≡ length bs → length h ≡ length x →
@@ -82,7 +66,7 @@ module _ (p : Program) (zs : List Vector) (x : Bricks) where
         ∙ sub_sub p.link_right (product p.link (sum_of t x)) (product p.link (sum_of t h))
         ∙ ap (sub p.link_right) (sym (image-forth t p x h sx small size))
         ∙ sym (rests_are t p (forth x h) (forth-sized t x h sx small))
-        ∙ ap (link_rests p) (sym (moved_is x h))
+        ∙ ap (link_rests p) (sym (moved_once x h))
 
     -- a walk costs what the phase cost changes by, and the phase allows its end
     record IsChange (phase : Phase) (h : Bricks) (c : ℤ) : Type 0 where
@@ -129,7 +113,7 @@ module _ (p : Program) (zs : List Vector) (x : Bricks) where
       where
         moves : AreSized t h → IsChange phase h (negsuc n) → list_all is_zero h ≡ true → ⊥
         moves small is none_moved =
-            let back : moved x 0 h ≡ x = moved_is x h ∙ zero_moved t x h sx small costs.walk.size none_moved in
+            let back : moved x 0 h ≡ x = moved_once x h ∙ forth_none t x h sx small costs.walk.size none_moved in
             omega (arith, ints, is.change, ap (phase_cost p phase) back)
 
         lowered : AreSized t h → IsChange phase h (negsuc n) → ⊥

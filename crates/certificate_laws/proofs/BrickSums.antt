@@ -1,15 +1,16 @@
 -- The list of all signed sums of generators: it is closed under one more generator, and where the generators have no
 -- products with the rows, neither have the sums.
-use Rattle.std.proofs.Common.{◌≡◌, ℕ, zero, suc, ◌≤◌, nat_le, Bool, true, false, ◌&&◌, ◌||◌, List, [], ◌∷◌, length, map, refl, ap, arith, sym, ◌∙◌, Contains, inl, inr, subst}
-use Rattle.std.proofs.lemmas.Bool.{cases_lt}
+use Rattle.std.proofs.Common.{◌≡◌, ℕ, zero, suc, ◌≤◌, nat_le, Bool, true, false, ◌&&◌, ◌||◌, List, [], ◌∷◌, length, map}
+use Rattle.std.proofs.Common.{refl, ap, arith, sym, ◌∙◌, Contains, inl, inr, subst}
+use Rattle.std.proofs.lemmas.Bool.{cases_lt, and_from}
 use Rattle.std.proofs.lemmas.List.Elements.{All-contains, All-from_recursion}
-use Rattle.std.specs.List.{list_all, list_any}
+use Rattle.std.specs.List.{list_all}
 use Rattle.lattice_theory.specs.Vectors.{Vector, is_rising, add, sub, zeros, same}
 use Rattle.lattice_theory.specs.Matrices.{Matrix, product}
 use Rattle.lattice_theory.specs.Lattices.{IsSlackBasis, kernel}
 use Rattle.lattice_theory.specs.SignedSums.{Sum, IsSignedSum, HasLevel, AreSums, vectors}
-use Rattle.lattice_laws.proofs.Tests.{same_refl}
-use Rattle.lattice_laws.proofs.Members.{contains_cases, contains_head, contains_tail}
+use Rattle.lattice_laws.proofs.Tests.{same_refl, nat_le_of}
+use Rattle.lattice_laws.proofs.Members.{contains_cases, contains_head, contains_tail, list_all_of, list_any_of}
 use Rattle.lattice_laws.proofs.Conformal.{length-add}
 use Rattle.lattice_laws.proofs.Products.{rows-add, rows-zeros, length-zeros, rows-sub}
 use Rattle.run_theory.specs.Certificates.{sum_of_row}
@@ -17,7 +18,6 @@ use Rattle.run_theory.specs.Outcomes.{row_of_sum}
 use Rattle.run_theory.specs.Checker.{is_sum_within, sums_are_closed}
 use Rattle.lattice_laws.proofs.Sums.{add_zeros, length-sub, sub_itself}
 use Rattle.cover_laws.proofs.Kernels.{IsGenerator, complete_generators}
-use Rattle.certificate_laws.proofs.Passing.{and_of, list_all_of, nat_le_of}
 use Rattle.cover_laws.proofs.SlackBases.{slack_basis_complete}
 
 -- ---- listed sums
@@ -36,15 +36,6 @@ listed_sum (s ∷ sums) w c = elim (contains_cases s.vector (vectors sums) w c) 
       let r = listed_sum sums w d in
       record { member = r.member; listed = contains_tail s sums r.member r.listed; is = r.is }
 ]
-
-list_any_of : {X : Type 0} (test : X → Bool) (xs : List X) (x : X) → Contains xs x → test x ≡ true →
-    list_any test xs ≡ true
-list_any_of test [] x (k, low, e) h = absurd (omega arith)
-list_any_of test (y ∷ xs) x c h = by (test y) refl (λ d. list_any_of test xs x d h)
-  where
-    by : (t : Bool) → test y ≡ t → (Contains xs x → list_any test xs ≡ true) → (t || list_any test xs) ≡ true
-    by true p rest = refl
-    by false p rest = elim (contains_cases y xs x c) [ inl e ↦ absurd (cc (ap test e, h, p)) | inr d ↦ rest d ]
 
 module _ (t : ℕ) (gens : List Vector) (g : ℕ) where
   abbrev IsSum : Sum → Type 0
@@ -73,7 +64,7 @@ module _ (t : ℕ) (gens : List Vector) (g : ℕ) where
         let s = r.member in
         let least = (member_is s r.listed).1.least n (subst (IsSignedSum t gens n) (sym r.is) sum) in
         list_any_of (λ u. same u.vector w && nat_le u.level n) sums s r.listed
-        (and_of (same s.vector w) (nat_le s.level n) (ap (λ v. same v w) r.is ∙ same_refl w)
+        (and_from (same s.vector w) (nat_le s.level n) (ap (λ v. same v w) r.is ∙ same_refl w)
         (nat_le_of s.level n least))
 
     pub zero_in : Contains (vectors sums) (zeros t)
@@ -92,7 +83,7 @@ module _ (t : ℕ) (gens : List Vector) (g : ℕ) where
 
         added : suc s.level ≤ g → (e : Vector) → Contains gens e → one_more s e ≡ true
         added low e d =
-            and_of (is_sum_within sums (suc s.level) (add s.vector e))
+            and_from (is_sum_within sums (suc s.level) (add s.vector e))
             (is_sum_within sums (suc s.level) (sub s.vector e))
             (within (suc s.level) (add s.vector e) low (s.vector, e, is.1.reached, d, inl refl))
             (within (suc s.level) (sub s.vector e) low (s.vector, e, is.1.reached, d, inr refl))
@@ -109,8 +100,8 @@ module _ (t : ℕ) (gens : List Vector) (g : ℕ) where
         let rising = is_rising (vectors sums) in
         let begins = is_sum_within sums 0 (zeros t) in
         let each = λ (s : Sum). nat_le g s.level || list_all (one_more s) gens in
-        and_of (rising && begins) (list_all each sums)
-        (and_of rising begins all.rising (within 0 (zeros t) (omega arith) refl))
+        and_from (rising && begins) (list_all each sums)
+        (and_from rising begins all.rising (within 0 (zeros t) (omega arith) refl))
         (list_all_of each sums more)
 
 -- the rows of a certificate are read back

@@ -1,8 +1,10 @@
 -- The rules on all bricks hold of the certificate of a point that a run ends at.
-use Rattle.std.proofs.Common.{◌≡◌, ℕ, ◌+◌, nat_eq, nat_lt, ℤ, Bool, true, ◌&&◌, List, [], ◌∷◌, length, map, drop, Option, Some, None, refl, arith, sym, ◌∙◌, Contains, subst}
+use Rattle.std.proofs.Common.{◌≡◌, ℕ, ◌+◌, nat_eq, nat_lt, ℤ, Bool, true, ◌&&◌, List, [], ◌∷◌, length, map, drop}
+use Rattle.std.proofs.Common.{Option, Some, None, refl, arith, sym, ◌∙◌, Contains, subst}
 use Rattle.std.proofs.lemmas.List.{length-map}
 use Rattle.std.proofs.lemmas.List.Elements.{recursion_from_All}
 use Rattle.std.specs.List.{list_all, AllByRecursion}
+use Rattle.std.proofs.lemmas.Bool.{and_from}
 use Rattle.fold_theory.specs.declared.Phase.{Phase}
 use Rattle.fold_theory.specs.declared.Phase.TheVariants.{Closed, Counted}
 use Rattle.run_theory.specs.declared.Claim.{Claim}
@@ -11,20 +13,24 @@ use Rattle.lattice_theory.specs.Vectors.{Vector, dot}
 use Rattle.lattice_theory.specs.Matrices.{has_shape}
 use Rattle.lattice_theory.specs.SignedSums.{Sum, vectors}
 use Rattle.lattice_laws.proofs.Members.{contains_head, contains_tail}
-use Rattle.fold_theory.specs.Programs.{Program, Bricks, IsBrick, IsProgram, IsWithin, is_within, brick_residual, link_rests, link_miss}
+use Rattle.fold_theory.specs.Programs.{Program, Bricks, IsBrick, IsProgram, IsWithin, is_within, brick_residual}
+use Rattle.fold_theory.specs.Programs.{link_rests, link_miss}
 use Rattle.run_theory.specs.Links.{Bases, AreBases, generators, links_of, fold_complexity}
 use Rattle.run_theory.specs.Steps.{AllowsEnd}
 use Rattle.run_theory.specs.Walks.{IsPotential}
 use Rattle.run_theory.specs.BrickSums.{AreBrickSums}
 use Rattle.run_theory.specs.Certificates.{Certificate, FoldPart, Table, listed_sums}
 use Rattle.run_theory.specs.Outcomes.{ArePotentials, row_of_sum, matrix_of_bricks, point_matrix}
-use Rattle.run_theory.specs.Checker.{point_fits, parts_fit, layers_hold, starts_at_zero, sums_are_closed, fold_rules, first_failing}
-use Rattle.piece_laws.proofs.Bounds.{is_within_of}
+use Rattle.run_theory.specs.Checker.{point_fits, parts_fit, layers_hold, starts_at_zero, sums_are_closed, fold_rules}
+use Rattle.run_theory.specs.Checker.{first_failing}
 use Rattle.lattice_laws.specs.VectorLists.{AreSized}
-use Rattle.piece_laws.proofs.Points.{points_sized, point-length}
+use Rattle.lattice_laws.proofs.Tests.{nat_eq_of, nat_le_of}
+use Rattle.piece_laws.proofs.Points.{points_sized}
 use Rattle.piece_laws.proofs.Starts.{bricks_of}
-use Rattle.certificate_laws.proofs.Passing.{and_of, nat_eq_of, nat_le_of, all_zip_of, sized_of, has_shape_of, none_failing}
+use Rattle.certificate_laws.proofs.Passing.{all_zip_of, sized_of, has_shape_of, none_failing}
 use Rattle.cover_laws.proofs.SlackBases.{slack_basis_complete}
+use Rattle.fold_laws.proofs.Bounds.{is_within_of}
+use Rattle.fold_laws.proofs.Points.{point-length}
 use Rattle.certificate_laws.proofs.StuckBricks.{basis_sized}
 use Rattle.certificate_laws.proofs.BrickSums.{IsStill, listed_still, sums_closed, zero_in, read_back}
 use Rattle.certificate_laws.proofs.PhaseRuns.{IsDone}
@@ -113,11 +119,11 @@ module _ (p : Program) (phase : Phase) (k : Claim) (b : Bases) (x : Bricks) (sum
       let high_fits = nat_eq_of (length table.rows) (1 + length p.bricks) (omega (arith, potentials.height)) in
       let wide_fits = nat_eq_of table.cols (length f.sums.rows) (potentials.width ∙ sym (rows_many sums)) in
       let each_fits = sized_of (length f.sums.rows) table.rows row_sizes in
-      and_of (points && members && links && listed && high && wide) each
-      (and_of (points && members && links && listed && high) wide
-      (and_of (points && members && links && listed) high
-      (and_of (points && members && links) listed
-      (and_of (points && members) links (and_of points members points_fit members_fit) links_fit) listed_fit)
+      and_from (points && members && links && listed && high && wide) each
+      (and_from (points && members && links && listed && high) wide
+      (and_from (points && members && links && listed) high
+      (and_from (points && members && links) listed
+      (and_from (points && members) links (and_from points members points_fit members_fit) links_fit) listed_fit)
       high_fits) wide_fits) each_fits
     where
       links_sized : AreBases p b → AreSized (length (generators p b.brick) + length p.link.rows) b.links
@@ -141,7 +147,7 @@ module _ (p : Program) (phase : Phase) (k : Claim) (b : Bases) (x : Bricks) (sum
       let all_meet =
       all_zip_of (λ a v. brick_residual p a v ≡ 0) (λ a v. nat_eq (brick_residual p a v) 0)
       (λ a v e. nat_eq_of (brick_residual p a v) 0 e) p.bricks x done.met.rows in
-      and_of (within && meets) (ends_test phase) (and_of within meets all_within all_meet) (by phase done.met.ends)
+      and_from (within && meets) (ends_test phase) (and_from within meets all_within all_meet) (by phase done.met.ends)
     where
       ends_test : Phase → Bool
       ends_test h = elim h [ Closed ↦ nat_eq (link_miss p (link_rests p x)) 0 | Counted ↦ true ]
@@ -182,7 +188,7 @@ module _ (p : Program) (phase : Phase) (k : Claim) (b : Bases) (x : Bricks) (sum
       let rests = link_rests p x in
       let listed = zero_in t (generators p b.brick) (fold_complexity p phase b) sums all in
       subst (λ us. potentials_hold us ≡ true) (sym (read_back sums))
-      (and_of (layers_hold p phase zs rests p.bricks x table.rows) (starts_at_zero p zs table.rows)
+      (and_from (layers_hold p phase zs rests p.bricks x table.rows) (starts_at_zero p zs table.rows)
       (layers p phase zs rests p.bricks x table.rows rows)
       (starts p zs x s bricks still sx many phase done.none listed table.rows rows))
 
@@ -191,7 +197,7 @@ module _ (p : Program) (phase : Phase) (k : Claim) (b : Bases) (x : Bricks) (sum
       first_failing (fold_rules p phase c f) ≡ None
   fold_rules_hold misses =
       none_failing (fold_rules p phase c f) (
-        and_of (parts_fit p c f) (point_fits p phase x) parts point,
+        and_from (parts_fit p c f) (point_fits p phase x) parts point,
         (
           slack_basis_complete p.brick b.brick bases.brick,
           (

@@ -1,7 +1,8 @@
 -- The laws on outcomes at values worked by hand, with bounds that leave one vector alone: a brick with the row
 -- v1 + v2 = 9 at (4, 4), which is stuck; and a brick with the row v = 4 at (4), where the linking row, v at most 5, is
 -- met too.
-use Rattle.std.specs.Prelude.{◌≡◌, ℕ, suc, zero, ◌≤◌, ℤ, pos, ◌≤ℤ◌, List, [], ◌∷◌, length, Contains, Option, Some, None, slice_get, refl}
+use Rattle.std.specs.Prelude.{◌≡◌, ℕ, suc, zero, ◌≤◌, ℤ, pos, ◌≤ℤ◌, List, [], ◌∷◌, length, Contains, Option, Some, None}
+use Rattle.std.specs.Prelude.{slice_get, refl}
 use Rattle.std.proofs.Common.{arith, ap, subst}
 use Rattle.std.proofs.lemmas.Int.{ints}
 use Rattle.std.proofs.lemmas.List.Elements.{All-head, All-nil, All-from_recursion}
@@ -22,7 +23,9 @@ use Rattle.run_theory.specs.Checker.{Accept}
 use Rattle.fold_theory.proofs.KnownValues.{square, free}
 use Rattle.piece_laws.proofs.KnownPrograms.{one_row}
 use Rattle.certificate_laws.proofs.Accepted.{stuck_is_accepted, outcome_is_accepted}
-use Rattle.outcome_laws.proofs.KnownValues.{convex_at_four, small_program, small_is_a_program, bases, they_are_bases, zero_vector, they_are_sums, sums, only_sum, point, small_outcome, it_is_optimal}
+use Rattle.outcome_laws.proofs.KnownValues.{convex_at_four, small_program, small_is_a_program, bases, they_are_bases}
+use Rattle.outcome_laws.proofs.KnownValues.{zero_vector, they_are_sums, sums, only_sum, point, small_outcome}
+use Rattle.outcome_laws.proofs.KnownValues.{it_is_optimal}
 use Rattle.outcome_laws.proofs.KnownBases.{row, pair, basis, it_is_slack}
 
 -- ---- a brick that is stuck

@@ -1,33 +1,14 @@
 -- Tests that pass: each fact and the test that decides it, and a list of rules whose tests all pass.
-use Rattle.std.proofs.Common.{◌≡◌, ℕ, ◌<◌, ◌≤◌, nat_eq, nat_le, nat_lt, Bool, true, ◌&&◌, cond, List, [], ◌∷◌, length, Some, None, refl, ap, arith, ◌∙◌, Contains}
-use Rattle.std.proofs.lemmas.Bool.Decides.{nat_tests}
+use Rattle.std.proofs.Common.{◌≡◌, ℕ, nat_eq, Bool, true, ◌&&◌, cond, List, [], ◌∷◌, length, Some, None, refl, ap, ◌∙◌}
 use Rattle.std.specs.List.{AllZip, AllByRecursion, list_all}
+use Rattle.std.proofs.lemmas.Bool.{and_from}
 use Rattle.lattice_theory.specs.Lists.{all_zip}
 use Rattle.lattice_theory.specs.Vectors.{Vector}
 use Rattle.lattice_theory.specs.Matrices.{has_shape}
-use Rattle.lattice_laws.proofs.Members.{contains_head, contains_tail}
 use Rattle.run_theory.specs.declared.Rule.{Rule}
 use Rattle.run_theory.specs.Checker.{first_failing}
 use Rattle.lattice_laws.specs.VectorLists.{AreSized}
-
-pub and_of : (a b : Bool) → a ≡ true → b ≡ true → (a && b) ≡ true
-and_of a b h k = ap (λ t. t && b) h ∙ k
-
-pub nat_eq_of : (a b : ℕ) → a ≡ b → nat_eq a b ≡ true
-nat_eq_of a b h = grind (arith, nat_tests)
-
-pub nat_le_of : (a b : ℕ) → a ≤ b → nat_le a b ≡ true
-nat_le_of a b h = grind (arith, nat_tests)
-
-pub nat_lt_of : (a b : ℕ) → a < b → nat_lt a b ≡ true
-nat_lt_of a b h = grind (arith, nat_tests)
-
-pub list_all_of : {X : Type 0} (test : X → Bool) (xs : List X) → ((x : X) → Contains xs x → test x ≡ true) →
-    list_all test xs ≡ true
-list_all_of test [] h = refl
-list_all_of test (x ∷ xs) h =
-    ap (λ t. t && list_all test xs) (h x (contains_head x xs))
-    ∙ list_all_of test xs (λ y c. h y (contains_tail x xs y c))
+use Rattle.lattice_laws.proofs.Tests.{nat_eq_of}
 
 pub all_zip_of : {A B : Type 0} (R : A → B → Type 0) (test : A → B → Bool) →
     ((a : A) (b : B) → R a b → test a b ≡ true) → (xs : List A) (ys : List B) → AllZip R xs ys →
@@ -49,8 +30,9 @@ sized_of n (row ∷ rows) h =
 pub has_shape_of : (rows cols : ℕ) (vs : List Vector) → length vs ≡ rows → AreSized cols vs →
     has_shape rows cols (record { cols = cols; rows = vs }) ≡ true
 has_shape_of rows cols vs height sized =
-    and_of (nat_eq (length vs) rows && nat_eq cols cols) (list_all (λ row. nat_eq (length row) cols) vs)
-    (and_of (nat_eq (length vs) rows) (nat_eq cols cols) (nat_eq_of (length vs) rows height) (nat_eq_of cols cols refl))
+    and_from (nat_eq (length vs) rows && nat_eq cols cols) (list_all (λ row. nat_eq (length row) cols) vs)
+    (and_from (nat_eq (length vs) rows) (nat_eq cols cols) (nat_eq_of (length vs) rows height)
+    (nat_eq_of cols cols refl))
     (sized_of cols vs sized)
 
 -- no rule is the first to fail

@@ -15,7 +15,7 @@ use Rattle.lattice_laws.proofs.Sums.{add_zeros}
 use Rattle.lattice_laws.proofs.Multiples.{rows-scale, scale-zeros, length-scale}
 use Rattle.lattice_laws.specs.VectorLists.{AreSized}
 use Rattle.piece_laws.proofs.Points.{points_sized}
-use Rattle.certificate_laws.proofs.BrickRuns.{run_ends}
+use Rattle.piece_laws.proofs.BrickEnds.{brick_run_end}
 use Rattle.certificate_laws.proofs.BrickSums.{IsStill}
 
 module _ (p : Program) where
@@ -39,7 +39,7 @@ module _ (p : Program) where
   settled t s basis (b ∷ bs) (ms ∷ traces) (v ∷ x) is all =
       let rest = settled t s basis bs traces x is.1 all.2 in
       record {
-        within = ((run_ends p basis b t s ms v is.0 all.0).within, rest.within);
+        within = ((brick_run_end p basis b ms v is.0.uncrossed all.0).within, rest.within);
         rows = (all.1, rest.rows);
       }
 

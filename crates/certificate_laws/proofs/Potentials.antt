@@ -1,21 +1,24 @@
 -- The least costs of walks of length 1 hold layer by layer: a move and a least walk behind it are a walk.
-use Rattle.std.proofs.Common.{◌≡◌, ℕ, suc, ◌+◌, ◌^◌, ◌≤◌, ℤ, pos, ◌+ℤ◌, ◌≤ℤ◌, Bool, true, false, ◌||◌, not, cond, List, [], ◌∷◌, length, drop, refl, ap, arith, sym, ◌∙◌, Contains, Option, Some, None, slice_get, inl, inr, subst}
+use Rattle.std.proofs.Common.{◌≡◌, ℕ, suc, ◌+◌, ◌^◌, ◌≤◌, ℤ, pos, ◌+ℤ◌, ◌≤ℤ◌, Bool, true, false, ◌||◌, not, cond, List}
+use Rattle.std.proofs.Common.{[], ◌∷◌, length, drop, refl, ap, arith, sym, ◌∙◌, Contains, Option, Some, None, slice_get}
+use Rattle.std.proofs.Common.{inl, inr, subst}
 use Rattle.std.proofs.lemmas.Int.{ints}
 use Rattle.std.proofs.lemmas.List.Elements.{All-cons, All-nil}
 use Rattle.std.specs.List.{AllZip, AllByRecursion, list_all}
+use Rattle.std.proofs.lemmas.Bool.{and_from}
 use Rattle.fold_theory.specs.declared.Phase.{Phase}
 use Rattle.lattice_theory.specs.Lists.{all_zip}
 use Rattle.lattice_theory.specs.Vectors.{Vector, add, scale, same}
 use Rattle.lattice_theory.specs.Matrices.{product}
 use Rattle.lattice_laws.proofs.Tests.{same_true, same_refl, int_le_of}
-use Rattle.lattice_laws.proofs.Members.{contains_cases, contains_head, contains_tail}
+use Rattle.lattice_laws.proofs.Members.{contains_cases, contains_head, contains_tail, list_all_of}
 use Rattle.fold_theory.specs.Programs.{Program, Brick, Bricks, IsWithin, is_within}
 use Rattle.run_theory.specs.Steps.{partial_sums}
 use Rattle.run_theory.specs.Walks.{brick_change, end_cost, WalkCosts}
 use Rattle.run_theory.specs.Checker.{at_most, plus, potential_of, layer_holds, layers_hold}
-use Rattle.piece_laws.proofs.Bounds.{is_within_true}
 use Rattle.lattice_laws.proofs.Multiples.{scale_once}
-use Rattle.certificate_laws.proofs.Passing.{and_of, list_all_of, all_zip_of}
+use Rattle.fold_laws.proofs.Bounds.{is_within_true}
+use Rattle.certificate_laws.proofs.Passing.{all_zip_of}
 use Rattle.certificate_laws.proofs.BrickRuns.{one_step}
 
 -- ---- cells
@@ -211,7 +214,7 @@ module _ (p : Program) (phase : Phase) (zs : List Vector) (rests : Vector) where
   layers (b ∷ bs) [] (row ∷ rows) all = absurd all
   layers (b ∷ bs) (v ∷ x) (row ∷ []) all = absurd (some_rows bs x all.1)
   layers (b ∷ bs) (v ∷ x) (row ∷ next ∷ rows) all =
-      and_of (layer_holds phase zs b v row next) (layers_hold p phase zs rests bs x (next ∷ rows))
+      and_from (layer_holds phase zs b v row next) (layers_hold p phase zs rests bs x (next ∷ rows))
       (layer b bs v x next (first_row bs x next rows all.1) row all.0) (layers bs x (next ∷ rows) all.1)
 
   -- by the places of the table

@@ -1,8 +1,10 @@
 -- The certificate on the first brick that is stuck breaks no rule.
-use Rattle.std.proofs.Common.{◌≡◌, ℕ, zero, suc, ◌+◌, ◌-◌, ◌<◌, nat_eq, false, ◌&&◌, cond, List, [], ◌∷◌, length, Option, Some, None, slice_get, refl, ap, arith, sym, ◌∙◌, subst}
+use Rattle.std.proofs.Common.{◌≡◌, ℕ, zero, suc, ◌+◌, ◌-◌, ◌<◌, nat_eq, false, ◌&&◌, cond, List, [], ◌∷◌, length}
+use Rattle.std.proofs.Common.{Option, Some, None, slice_get, refl, ap, arith, sym, ◌∙◌, subst}
 use Rattle.std.proofs.lemmas.Bool.Decides.{nat_tests}
 use Rattle.std.proofs.lemmas.List.Elements.{recursion_from_All}
 use Rattle.std.specs.List.{AllByRecursion}
+use Rattle.std.proofs.lemmas.Bool.{and_from}
 use Rattle.run_theory.specs.declared.Rule.{Rule}
 use Rattle.run_theory.specs.declared.Rule.TheVariants.{B1}
 use Rattle.run_theory.specs.declared.Claim.TheVariants as claim
@@ -15,12 +17,14 @@ use Rattle.run_theory.specs.Certificates.{Certificate}
 use Rattle.run_theory.specs.Outcomes.{FirstStuck, matrix_of_bricks, point_matrix}
 use Rattle.run_theory.specs.BrickRuns.{BrickMove}
 use Rattle.run_theory.specs.Checker.{brick_rules, first_failing, Accept}
-use Rattle.piece_laws.proofs.Bounds.{is_within_of, length-within}
 use Rattle.lattice_laws.specs.VectorLists.{AreSized}
+use Rattle.lattice_laws.proofs.Tests.{nat_lt_of}
 use Rattle.piece_laws.proofs.Starts.{bricks_of}
-use Rattle.certificate_laws.proofs.Passing.{and_of, nat_lt_of, has_shape_of, none_failing}
-use Rattle.certificate_laws.proofs.BrickRuns.{IsRunEnd, run_ends, none_helps}
+use Rattle.piece_laws.proofs.BrickEnds.{IsEnd, brick_run_end}
+use Rattle.certificate_laws.proofs.Passing.{has_shape_of, none_failing}
+use Rattle.certificate_laws.proofs.BrickRuns.{none_helps}
 use Rattle.cover_laws.proofs.SlackBases.{slack_basis_complete}
+use Rattle.fold_laws.proofs.Bounds.{is_within_of, length-within}
 
 -- the members of a slack basis have one length
 pub basis_sized : (m : Matrix) (basis : List Vector) → IsSlackBasis m basis →
@@ -52,7 +56,7 @@ module _ (p : Program) (basis : List Vector) (number : ℕ) (v : Vector) (progra
   c = stuck_certificate p number basis v
 
   -- each rule's test passes
-  rules_hold : (b : Brick) → IsBrick p.brick.cols (length p.brick.rows) b → IsRunEnd p basis b v →
+  rules_hold : (b : Brick) → IsBrick p.brick.cols (length p.brick.rows) b → IsEnd p basis b v →
       0 < brick_residual p b v → first_failing (brick_rules p c b v) ≡ None
   rules_hold b is end stuck =
       let width = p.brick.cols + length p.brick.rows in
@@ -60,9 +64,9 @@ module _ (p : Program) (basis : List Vector) (number : ℕ) (v : Vector) (progra
       let point = has_shape_of 1 p.brick.cols (v ∷ []) refl (long, tt) in
       let members = has_shape_of (length basis) width basis refl (basis_sized p.brick basis slack) in
       let shapes =
-      and_of (has_shape 1 p.brick.cols c.point) (has_shape (length basis) width c.bricks) point members in
+      and_from (has_shape 1 p.brick.cols c.point) (has_shape (length basis) width c.bricks) point members in
       let fits =
-      and_of (has_shape 1 p.brick.cols c.point && has_shape (length basis) width c.bricks) (is_within b v) shapes
+      and_from (has_shape 1 p.brick.cols c.point && has_shape (length basis) width c.bricks) (is_within b v) shapes
       (is_within_of b v end.within) in
       none_failing (brick_rules p c b v) (
         fits,
@@ -74,7 +78,7 @@ module _ (p : Program) (basis : List Vector) (number : ℕ) (v : Vector) (progra
 
   -- by the number of the brick
   stuck_accepted : (place : ℕ) (b : Brick) → number ≡ place + 1 → slice_get p.bricks place ≡ Some b →
-      IsRunEnd p basis b v → 0 < brick_residual p b v → Accept p c
+      IsEnd p basis b v → 0 < brick_residual p b v → Accept p c
   stuck_accepted place b numbered there end stuck =
       ap broken found
       ∙ rules_hold b (brick_at p.brick.cols (length p.brick.rows) p.bricks place b (bricks_of p program) there)
@@ -101,5 +105,5 @@ module _ (p : Program) (basis : List Vector) (number : ℕ) (v : Vector) (progra
       let bricks = bricks_of p program in
       let is = brick_at p.brick.cols (length p.brick.rows) p.bricks first.place first.brick bricks first.there in
       stuck_accepted first.place first.brick first.numbered first.there
-      (run_ends p basis first.brick p.brick.cols (length p.brick.rows) first.last v is first.run)
+      (brick_run_end p basis first.brick first.last v is.uncrossed first.run)
       (subst (λ n. 0 < n) (sym first.left) first.stuck)

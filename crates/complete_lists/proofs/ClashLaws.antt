@@ -1,17 +1,17 @@
 -- Laws of the clashes of two rows, entry by entry and row by row.
-use Rattle.std.proofs.Common.{◌≡◌, ℕ, zero, suc, ◌+◌, ◌<◌, ◌≤◌, pos, ◌+ℤ◌, nat_lt, Bool, true, false, not, ◌&&◌, ◌||◌}
-use Rattle.std.proofs.Common.{List, [], ◌∷◌, ◌++◌, length, take, drop, get_or, refl, ap, arith, sym, ◌∙◌, Option}
-use Rattle.std.proofs.Common.{Some, None, slice_get, length-take}
+use Rattle.std.proofs.Common.{◌≡◌, ℕ, zero, suc, ◌+◌, ◌<◌, ◌≤◌, pos, ◌+ℤ◌, nat_lt, Bool, true, false, ◌&&◌, ◌||◌, List}
+use Rattle.std.proofs.Common.{[], ◌∷◌, ◌++◌, length, take, drop, get_or, refl, ap, arith, sym, ◌∙◌, Option, Some, None}
+use Rattle.std.proofs.Common.{slice_get, length-take}
 use Rattle.std.specs.List.{list_all, list_any}
 use Rattle.std.proofs.lemmas.Bool.Decides.{nat_tests}
 use Rattle.std.proofs.lemmas.List.{drop_all, take_all, take-take}
 use Rattle.lattice_theory.specs.Vectors.{Vector, conforms, add, opposite}
-use Rattle.lattice_laws.proofs.Tests.{and_true}
+use Rattle.lattice_laws.proofs.Tests.{and_true, and-interchange}
 use Rattle.lattice_laws.proofs.Signs.{agrees}
 use Rattle.lattice_laws.proofs.Conformal.{agree, opposite-take}
+use Rattle.lattice_laws.proofs.Places.{drop-at}
 use Rattle.criterion_laws.specs.Prefixes.{first_clash, is_below_in, clash_settles, pair_settles, clashes_settle}
 use Rattle.criterion_laws.proofs.Turned.{settles_turned}
-use Rattle.complete_lists.proofs.ScanLaws.{drop-at}
 
 -- ---- entry by entry
 
@@ -31,10 +31,6 @@ pub agree-more : (f g : Vector) (at : ℕ) → at < length f → at < length g �
 agree-more f g at low low_too before here =
     let next : at + 1 ≡ suc at = omega arith in
     (λ i. agree (take (next i) f) (take (next i) g)) ∙ agree-suc f g at low low_too before here
-
-pub turned_test : (b : Bool) → not b ≡ false → b ≡ true
-turned_test true is = refl
-turned_test false is = absurd (cc)
 
 -- one entry more of the sum
 sum-suc : (f g : Vector) (at : ℕ) → at < length f → at < length g →
@@ -117,13 +113,7 @@ list_all-and : {A : Type 0} (p q : A → Bool) (xs : List A) →
     list_all (λ a. p a && q a) xs ≡ (list_all p xs && list_all q xs)
 list_all-and p q [] = refl
 list_all-and p q (x ∷ xs) =
-    ap (λ t. (p x && q x) && t) (list_all-and p q xs) ∙ swapped (p x) (q x) (list_all p xs) (list_all q xs)
-  where
-    swapped : (a b c d : Bool) → ((a && b) && (c && d)) ≡ ((a && c) && (b && d))
-    swapped true true c d = refl
-    swapped true false true d = refl
-    swapped true false false d = refl
-    swapped false b c d = refl
+    ap (λ t. (p x && q x) && t) (list_all-and p q xs) ∙ and-interchange (p x) (q x) (list_all p xs) (list_all q xs)
 
 -- each pair, with both signs of the first one
 pub pairs-signs : (cols : ℕ) (basis : List Vector) (f : Vector) (gs : List Vector) →

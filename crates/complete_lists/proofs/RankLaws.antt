@@ -8,10 +8,11 @@ use Rattle.std.proofs.lemmas.List.Elements.{All-push}
 use Rattle.std.proofs.lemmas.List.Sorted.{list_any-IsPermutation, All-permutation, IsPermutation-map}
 use Rattle.std.proofs.lemmas.Option.{slice_get-get_or, slice_get-map}
 use Rattle.lattice_theory.specs.Vectors.{Vector, add, opposite}
+use Rattle.lattice_laws.proofs.Places.{slice_get-All}
 use Rattle.criterion_laws.specs.Prefixes.{first_clash, is_below_in, clash_settles, pair_settles, clashes_settle}
 use Rattle.complete_lists.specs.declared.ranked.Ranked.{Ranked}
 use Rattle.complete_lists.specs.Ranks.{rows_in}
-use Rattle.complete_lists.proofs.ScanLaws.{same_row, at-All}
+use Rattle.complete_lists.proofs.ScanLaws.{same_row}
 
 -- the row that is read at a place, and its width
 module _ (rs : List Ranked) (i : ℕ) (x : Ranked) (row : Vector) (low : i < length rs)
@@ -23,7 +24,7 @@ module _ (rs : List Ranked) (i : ℕ) (x : Ranked) (row : Vector) (low : i < len
       ∙ ap Some (sym read)
 
   pub width-there : (cols : ℕ) → All (λ (v : Vector). length v ≡ cols) (rows_in rs) → length row ≡ cols
-  width-there cols widths = at-All (λ (v : Vector). length v ≡ cols) (rows_in rs) i row row-there widths
+  width-there cols widths = slice_get-All (λ (v : Vector). length v ≡ cols) (rows_in rs) i row row-there widths
 
 -- one row more
 pub rows-more : (rows : List Vector) (rs more : List Ranked) (i : ℕ) (x : Ranked) →

@@ -1,31 +1,16 @@
 -- Laws of a test of each element of a list, element by element.
-use Rattle.std.proofs.Common.{◌≡◌, ℕ, zero, suc, ◌+◌, ◌-◌, ◌<◌, ◌≤◌, pos, Bool, true, false, ◌&&◌, ◌||◌, List, []}
-use Rattle.std.proofs.Common.{◌∷◌, length}
-use Rattle.std.proofs.Common.{map, drop, get_or, refl, ap, arith, sym, ◌∙◌, Some, slice_get, All}
+use Rattle.std.proofs.Common.{◌≡◌, ℕ, zero, suc, ◌+◌, ◌-◌, ◌<◌, ◌≤◌, pos, Bool, true, false, ◌&&◌, ◌||◌, List, [], ◌∷◌}
+use Rattle.std.proofs.Common.{length, map, drop, get_or, refl, ap, arith, sym, ◌∙◌, Some, slice_get}
 use Rattle.std.specs.List.{list_all, list_any}
 use Rattle.std.specs.Ordering.{int_eq}
 use Rattle.lattice_theory.specs.Lists.{numbers_from}
 use Rattle.lattice_theory.specs.Vectors.{Vector, same, lex_less, is_rising, dot}
-use Rattle.std.proofs.lemmas.Option.{slice_get_within, get_or_from_slice_get}
-use Rattle.std.proofs.lemmas.List.Elements.{All-contains}
 use Rattle.std.proofs.lemmas.List.{drop_all}
-
--- a list from the place of an element on
-pub drop-at : {A : Type 0} (xs : List A) (i : ℕ) (x : A) → slice_get xs i ≡ Some x → drop i xs ≡ x ∷ drop (i + 1) xs
-drop-at [] i x h = absurd (cc)
-drop-at (y ∷ xs) zero x h = let e : y ≡ x = cc in ap (λ t. t ∷ xs) e
-drop-at (y ∷ xs) (suc i) x h =
-    let next : suc i + 1 ≡ suc (i + 1) = omega arith in
-    drop-at xs i x h ∙ ap (λ n. x ∷ drop n (y ∷ xs)) (sym next)
+use Rattle.lattice_laws.proofs.Places.{drop-at, drop-entry}
 
 -- one place has one element
 pub same_row : {A : Type 0} (xs : List A) (i : ℕ) (x y : A) → slice_get xs i ≡ Some x → slice_get xs i ≡ Some y → x ≡ y
 same_row xs i x y h k = cc
-
--- what holds of each element holds of the one at a place
-pub at-All : {A : Type 0} (P : A → Type 0) (xs : List A) (i : ℕ) (x : A) → slice_get xs i ≡ Some x → All P xs → P x
-at-All P xs i x there all =
-    All-contains P xs x all (i, slice_get_within xs i x there, get_or_from_slice_get xs i x x there)
 
 -- ---- all elements from a place on
 
@@ -70,15 +55,8 @@ pub same-at : (image : Vector) (rows : List Vector) (v row : Vector) (i : ℕ) (
     same (drop i image) (map (λ r. dot r v) (drop i rows))
     ≡ (b && same (drop (i + 1) image) (map (λ r. dot r v) (drop (i + 1) rows)))
 same-at image rows v row i b low there is =
-    (λ k. same (entry image i low k) (map (λ r. dot r v) (drop-at rows i row there k)))
+    (λ k. same (drop-entry image i (pos 0) low k) (map (λ r. dot r v) (drop-at rows i row there k)))
     ∙ ap (λ t. t && same (drop (i + 1) image) (map (λ r. dot r v) (drop (i + 1) rows))) is
-  where
-    entry : (u : Vector) (i : ℕ) → i < length u → drop i u ≡ get_or u i (pos 0) ∷ drop (i + 1) u
-    entry [] i low = absurd (omega arith)
-    entry (a ∷ u) zero low = refl
-    entry (a ∷ u) (suc i) low =
-        let next : suc i + 1 ≡ suc (i + 1) = omega arith in
-        entry u i (omega arith) ∙ ap (λ n. get_or u i (pos 0) ∷ drop n (a ∷ u)) (sym next)
 
 pub same-end : (image : Vector) (rows : List Vector) (v : Vector) (i : ℕ) → length image ≤ i → length rows ≤ i →
     same (drop i image) (map (λ r. dot r v) (drop i rows)) ≡ true

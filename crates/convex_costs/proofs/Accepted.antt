@@ -1,5 +1,6 @@
 -- What holds of a cost without fault: it is convex on its bounds, and no larger there than its magnitude.
-use Rattle.std.proofs.Common.{◌≡◌, ℕ, ◌^◌, ◌≤◌, max, ℤ, pos, ◌≤ℤ◌, unsigned_abs, int_le, int_lt, nat_lt, Bool, true, false, cond, List, [], ◌∷◌, refl, arith, Option, Some, None, ◌&&◌}
+use Rattle.std.proofs.Common.{◌≡◌, ℕ, ◌^◌, ◌≤◌, max, ℤ, pos, ◌≤ℤ◌, unsigned_abs, int_le, int_lt, nat_lt, Bool, true}
+use Rattle.std.proofs.Common.{false, cond, List, [], ◌∷◌, refl, arith, Option, Some, None, ◌&&◌}
 use Rattle.std.specs.Option.{option_or, option_map}
 use Rattle.std.proofs.lemmas.Int.{ints}
 use Rattle.std.proofs.lemmas.Bool.Decides.{nat_tests}
@@ -8,7 +9,8 @@ use Rattle.fold_theory.specs.declared.Cost.TheVariants.{Quadratic, Points}
 use Rattle.fold_theory.specs.declared.Breakpoint.{Breakpoint}
 use Rattle.fold_theory.specs.Costs.{value, magnitude, IsConvexOn}
 use Rattle.convex_costs.specs.declared.fault.CostFault.{CostFault}
-use Rattle.convex_costs.specs.Faults.{cost_fault, shape_fault, points_fault, first_failing, first_bend, is_right, has_whole_slope, covers, last_of}
+use Rattle.convex_costs.specs.Faults.{cost_fault, shape_fault, points_fault, first_failing, first_bend, is_right}
+use Rattle.convex_costs.specs.Faults.{has_whole_slope, covers, last_of}
 use Rattle.convex_costs.specs.Bounds.{terms, IsAccepted}
 use Rattle.convex_costs.proofs.Products.{abs_between, terms_grow, quadratic_abs}
 use Rattle.convex_costs.proofs.LineLaws.{lines_of, slopes_rise_of, on_lines-small}
@@ -91,11 +93,13 @@ convex_without_fault (Points []) lo hi none = absurd (cc (faultless_of [] lo hi 
 convex_without_fault (Points (p ∷ ps)) lo hi none =
     let is = faultless_of (p ∷ ps) lo hi none in
     let ends = covers_both p ps lo hi is.reaches in
-    let convex = lines_are_convex p ps (lines_of 1 1 (p ∷ ps) is.rising is.whole) (slopes_rise_of 1 (p ∷ ps) is.unbent) in
+    let convex = lines_are_convex p ps (lines_of 1 1 (p ∷ ps) is.rising is.whole)
+    (slopes_rise_of 1 (p ∷ ps) is.unbent) in
     λ v low high. convex v (omega (arith, ints, low, ends.0)) (omega (arith, ints, high, ends.1))
 
 -- within the bounds the terms of a quadratic cost are within its magnitude
-terms_within : (a b c lo hi v : ℤ) → lo ≤ℤ v → v ≤ℤ hi → terms a b c (unsigned_abs v) ≤ magnitude (Quadratic a b c) lo hi
+terms_within : (a b c lo hi v : ℤ) → lo ≤ℤ v → v ≤ℤ hi →
+    terms a b c (unsigned_abs v) ≤ magnitude (Quadratic a b c) lo hi
 terms_within a b c lo hi v low high =
     terms_grow a b c (unsigned_abs v) (max (unsigned_abs lo) (unsigned_abs hi)) (abs_between lo hi v low high)
 

@@ -1,11 +1,13 @@
 -- Values of costs, as the code computes them: each part fits 128 bits.
-use Rattle.std.proofs.Common.{◌≡◌, ◌+◌, ◌*◌, ◌^◌, ◌≤◌, ℤ, ◌+ℤ◌, ◌-ℤ◌, ◌*ℤ◌, unsigned_abs, FitsSigned, w64, subst, ap, arith, sym, ◌∙◌}
+use Rattle.std.proofs.Common.{◌≡◌, ◌+◌, ◌*◌, ◌^◌, ◌≤◌, ℤ, ◌+ℤ◌, ◌-ℤ◌, ◌*ℤ◌, unsigned_abs, FitsSigned, w64, subst, ap}
+use Rattle.std.proofs.Common.{arith, sym, ◌∙◌}
 use Rattle.std.specs.Int.{w128}
 use Rattle.std.proofs.lemmas.Int.{ints, unsigned_abs-mul}
 use Rattle.std.proofs.Math.Nat.{mul-le-mul}
 use Rattle.fold_theory.specs.declared.Breakpoint.{Breakpoint}
+use Rattle.lattice_laws.proofs.Tests.{is_bounded_true}
 use Rattle.convex_costs.specs.Bounds.{terms, IsBoundedPoint}
-use Rattle.convex_costs.proofs.Numbers.{small_of, fits_64, fits_128, narrow, wide, wide_is, narrow_is}
+use Rattle.convex_costs.proofs.Numbers.{fits_64, fits_128, narrow, wide, wide_is, narrow_is}
 
 -- ---- on a line: a value, and a slope times a run
 
@@ -18,9 +20,9 @@ pub record IsStretch (s d : ℤ) : Type 0 where
 pub stretch_of : (p q : Breakpoint) (v s d : ℤ) → IsBoundedPoint p → IsBoundedPoint q → FitsSigned w64 v →
     unsigned_abs s ≤ unsigned_abs (q.value -ℤ p.value) → d ≡ v -ℤ p.at → IsStretch s d
 stretch_of p q v s d left right fits slope run =
-    let from = small_of p.at left.0 in
-    let low = small_of p.value left.1 in
-    let high = small_of q.value right.1 in
+    let from = is_bounded_true p.at left.0 in
+    let low = is_bounded_true p.value left.1 in
+    let high = is_bounded_true q.value right.1 in
     record { slope = omega (arith, ints, slope, low, high); run = omega (arith, ints, run, from, fits) }
 
 module _ (s d : ℤ) (is : IsStretch s d) where
@@ -99,7 +101,13 @@ module _ (a b c v : ℤ) (fits_a : FitsSigned w64 a) (fits_b : FitsSigned w64 b)
 
   three_are : wide (two_terms a b v) +ℤ wide (narrow c) ≡ a *ℤ (v *ℤ v) +ℤ b *ℤ v +ℤ c
   three_are =
-      let two = ap wide two_are ∙ wide_is (a *ℤ (v *ℤ v) +ℤ b *ℤ v) (omega (arith, ints, square_abs, line_abs, small)) in
+      let two = ap wide two_are ∙ wide_is (a *ℤ (v *ℤ v) +ℤ b *ℤ v) (omega (
+        arith,
+        ints,
+        square_abs,
+        line_abs,
+        small,
+      )) in
       let last = narrow_is c fits_c in
       λ i. two i +ℤ last i
 

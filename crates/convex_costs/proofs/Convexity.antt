@@ -1,12 +1,15 @@
 -- Quadratic costs with a positive square, and lines whose slopes rise, are convex.
-use Rattle.std.proofs.Common.{◌≡◌, ℤ, pos, ◌+ℤ◌, ◌-ℤ◌, ◌*ℤ◌, ◌≤ℤ◌, ◌<ℤ◌, List, [], ◌∷◌, ◌⊎◌, inl, inr, subst, ap, arith, sym, ◌∙◌}
+use Rattle.std.proofs.Common.{◌≡◌, ℤ, pos, ◌+ℤ◌, ◌-ℤ◌, ◌*ℤ◌, ◌≤ℤ◌, ◌<ℤ◌, List, [], ◌∷◌, ◌⊎◌, inl, inr, subst, ap, arith}
+use Rattle.std.proofs.Common.{sym, ◌∙◌}
 use Rattle.std.proofs.lemmas.Int.{ints}
 use Rattle.fold_theory.specs.declared.Cost.TheVariants.{Quadratic}
 use Rattle.fold_theory.specs.declared.Breakpoint.{Breakpoint}
 use Rattle.fold_theory.specs.Costs.{slope, on_lines, value, IsConvexOn}
+use Rattle.lattice_laws.proofs.Tests.{le_or_less}
 use Rattle.convex_costs.specs.Faults.{last_of}
 use Rattle.convex_costs.proofs.Products.{times_next, times_next_square}
-use Rattle.convex_costs.proofs.LineLaws.{AreLines, SlopesRise, on_line, on_line-end, on_line-start, on_line-next, on_lines-first, on_lines-behind, at_most_or_more}
+use Rattle.convex_costs.proofs.LineLaws.{AreLines, SlopesRise, on_line, on_line-end, on_line-start, on_line-next}
+use Rattle.convex_costs.proofs.LineLaws.{on_lines-first, on_lines-behind}
 
 -- the second difference at v is not negative
 abbrev pub IsConvexAt : (ℤ → ℤ) → ℤ → Type 0
@@ -69,7 +72,7 @@ pub lines_are_convex : (p : Breakpoint) (ps : List Breakpoint) → AreLines (p �
     IsConvexOn (on_lines (p ∷ ps)) p.at (last_of p ps).at
 lines_are_convex p [] lines rise v low high = absurd (omega (arith, ints, low, high))
 lines_are_convex p (q ∷ ps) lines rise v low high =
-    by (at_most_or_more (v +ℤ pos 1) q.at) (at_most_or_more v q.at)
+    by (le_or_less (v +ℤ pos 1) q.at) (le_or_less v q.at)
     (λ from. lines_are_convex q ps lines.1 (behind ps rise) v from high)
   where
     behind : (rs : List Breakpoint) → SlopesRise (p ∷ q ∷ rs) → SlopesRise (q ∷ rs)

@@ -5,7 +5,8 @@ use Rattle.fold_theory.specs.declared.Cost.TheVariants.{Quadratic, Points}
 use Rattle.fold_theory.specs.declared.Breakpoint.{Breakpoint}
 use Rattle.fold_theory.specs.Costs.{value, magnitude}
 use Rattle.convex_costs.specs.Faults.{cost_fault}
-use Rattle.convex_costs.specs.declared.fault.CostFault.TheVariants.{NotRising, SlopeNotWhole, NotConvex, NotCovered, TooLarge}
+use Rattle.convex_costs.specs.declared.fault.CostFault.TheVariants.{NotRising, SlopeNotWhole, NotConvex, NotCovered}
+use Rattle.convex_costs.specs.declared.fault.CostFault.TheVariants.{TooLarge}
 
 -- minus n
 abbrev minus : ℕ → ℤ
@@ -21,7 +22,8 @@ low_point at n = record { at = pos at; value = minus n }
 abbrev three : Cost
 three = Points (point 0 0 ∷ point 2 2 ∷ point 4 8 ∷ [])
 
-known_values : map (value three) (pos 0 ∷ pos 1 ∷ pos 2 ∷ pos 3 ∷ pos 4 ∷ []) ≡ pos 0 ∷ pos 1 ∷ pos 2 ∷ pos 5 ∷ pos 8 ∷ []
+known_values : map (value three) (pos 0 ∷ pos 1 ∷ pos 2 ∷ pos 3 ∷ pos 4 ∷ []) ≡ pos 0 ∷ pos 1 ∷ pos 2 ∷ pos 5 ∷ pos 8
+    ∷ []
 known_values = refl
 
 known_accepted : cost_fault three (pos 0) (pos 4) ≡ None
@@ -62,7 +64,8 @@ begins_right = refl
 places_first : cost_fault (Points (point 0 0 ∷ point 2 3 ∷ point 1 0 ∷ [])) (pos 0) (pos 9) ≡ Some (NotRising 3)
 places_first = refl
 
-slopes_next : cost_fault (Points (point 0 0 ∷ point 1 2 ∷ point 2 3 ∷ point 4 6 ∷ [])) (pos 0) (pos 9) ≡ Some (SlopeNotWhole 4)
+slopes_next : cost_fault (Points (point 0 0 ∷ point 1 2 ∷ point 2 3 ∷ point 4 6 ∷ [])) (pos 0) (pos 9) ≡ Some
+    (SlopeNotWhole 4)
 slopes_next = refl
 
 -- 2 ^ 62 times the square of 2 ^ 62

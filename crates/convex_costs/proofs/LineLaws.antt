@@ -1,12 +1,16 @@
 -- Breakpoints that rise by whole slopes: the cost on the lines between them, and how large it is.
-use Rattle.std.proofs.Common.{◌≡◌, ℕ, suc, ◌≤◌, max, ℤ, pos, ◌+ℤ◌, ◌-ℤ◌, ◌*ℤ◌, ◌≤ℤ◌, ◌<ℤ◌, unsigned_abs, int_le, int_rem, Bool, true, false, cond, List, [], ◌∷◌, map, ◌⊎◌, inl, inr, refl, ap, arith, sym, ◌∙◌, Option, Some, None, subst}
+use Rattle.std.proofs.Common.{◌≡◌, ℕ, suc, ◌≤◌, max, ℤ, pos, ◌+ℤ◌, ◌-ℤ◌, ◌*ℤ◌, ◌≤ℤ◌, ◌<ℤ◌, unsigned_abs, int_le}
+use Rattle.std.proofs.Common.{int_rem, Bool, true, false, cond, List, [], ◌∷◌, map, ◌⊎◌, inl, inr, refl, ap, arith, sym}
+use Rattle.std.proofs.Common.{◌∙◌, Option, Some, None, subst}
 use Rattle.std.proofs.lemmas.Int.{ints, quot-rem}
 use Rattle.std.proofs.Math.IntN.{*ℤ-zero}
 use Rattle.lattice_theory.specs.Lists.{greatest}
 use Rattle.fold_theory.specs.declared.Breakpoint.{Breakpoint}
 use Rattle.fold_theory.specs.Costs.{slope, on_lines}
+use Rattle.lattice_laws.proofs.Tests.{le_or_less, int_le_true}
+use Rattle.lattice_laws.proofs.Products.{times_sum}
 use Rattle.convex_costs.specs.Faults.{first_failing, first_bend, is_right, has_whole_slope}
-use Rattle.convex_costs.proofs.Products.{times_sum, times_next, multiples_agree}
+use Rattle.convex_costs.proofs.Products.{times_next, multiples_agree}
 
 -- ---- what the tests of a walk say
 
@@ -57,10 +61,7 @@ slopes_rise_of j (p ∷ []) none = tt
 slopes_rise_of j (p ∷ q ∷ []) none = tt
 slopes_rise_of j (p ∷ q ∷ r ∷ ps) none =
     let here = none_found (int_le (slope p q) (slope q r)) (first_bend (suc j) (q ∷ r ∷ ps)) (suc (suc j)) none in
-    (le_of (slope p q) (slope q r) here.0, slopes_rise_of (suc j) (q ∷ r ∷ ps) here.1)
-  where
-    le_of : (a b : ℤ) → int_le a b ≡ true → a ≤ℤ b
-    le_of a b test = grind (arith, ints)
+    (int_le_true (slope p q) (slope q r) here.0, slopes_rise_of (suc j) (q ∷ r ∷ ps) here.1)
 
 -- ---- one line
 
@@ -126,17 +127,10 @@ on_lines-start p (q ∷ ps) lines =
     let right = lines.0.right in
     on_lines-first p q ps p.at (omega (arith, ints, right)) ∙ on_line-start p q
 
-pub at_most_or_more : (a b : ℤ) → (a ≤ℤ b) ⊎ (b <ℤ a)
-at_most_or_more a b = by (int_le a b) refl
-  where
-    by : (t : Bool) → int_le a b ≡ t → (a ≤ℤ b) ⊎ (b <ℤ a)
-    by true test = inl (grind (arith, ints))
-    by false test = inr (grind (arith, ints))
-
 -- from its second breakpoint on, the first breakpoint does not count
 pub on_lines-behind : (p q : Breakpoint) (ps : List Breakpoint) (v : ℤ) → AreLines (p ∷ q ∷ ps) → q.at ≤ℤ v →
     on_lines (p ∷ q ∷ ps) v ≡ on_lines (q ∷ ps) v
-on_lines-behind p q ps v lines behind = by (at_most_or_more v q.at)
+on_lines-behind p q ps v lines behind = by (le_or_less v q.at)
   where
     by : (v ≤ℤ q.at) ⊎ (q.at <ℤ v) → on_lines (p ∷ q ∷ ps) v ≡ on_lines (q ∷ ps) v
     by (inr later) = on_lines-later p q ps v later
@@ -149,7 +143,7 @@ on_lines-behind p q ps v lines behind = by (at_most_or_more v q.at)
 pub on_lines-small : (p : Breakpoint) (ps : List Breakpoint) (v : ℤ) → AreLines (p ∷ ps) → p.at ≤ℤ v →
     unsigned_abs (on_lines (p ∷ ps) v) ≤ greatest (map (λ r. unsigned_abs r.value) (p ∷ ps))
 on_lines-small p [] v lines low = omega arith
-on_lines-small p (q ∷ ps) v lines low = by (at_most_or_more v q.at) (λ later. on_lines-small q ps v lines.1 later)
+on_lines-small p (q ∷ ps) v lines low = by (le_or_less v q.at) (λ later. on_lines-small q ps v lines.1 later)
   where
     by : (v ≤ℤ q.at) ⊎ (q.at <ℤ v) → (q.at ≤ℤ v →
         unsigned_abs (on_lines (q ∷ ps) v) ≤ greatest (map (λ r. unsigned_abs r.value) (q ∷ ps))) →

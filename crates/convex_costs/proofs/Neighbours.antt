@@ -1,5 +1,6 @@
 -- Neighbours in a list of breakpoints, as a walk from place to place meets them.
-use Rattle.std.proofs.Common.{◌≡◌, ℕ, zero, suc, ◌+◌, ◌-◌, ◌<◌, ◌≤◌, pos, ◌<ℤ◌, List, [], ◌∷◌, length, get_or, drop, Bool, true, false, cond, ap, arith, sym, ◌∙◌, Some, None, refl, subst, int_le}
+use Rattle.std.proofs.Common.{◌≡◌, ℕ, zero, suc, ◌+◌, ◌-◌, ◌<◌, ◌≤◌, pos, ◌<ℤ◌, List, [], ◌∷◌, length, get_or, drop}
+use Rattle.std.proofs.Common.{Bool, true, false, cond, ap, arith, sym, ◌∙◌, Some, None, refl, subst, int_le}
 use Rattle.std.proofs.lemmas.List.{at_drop_more, length-drop}
 use Rattle.fold_theory.specs.declared.Breakpoint.{Breakpoint}
 use Rattle.fold_theory.specs.Costs.{slope}

@@ -1,15 +1,11 @@
 -- Numbers of 64 and of 128 bits, as the code reads them, with their quotients and remainders.
-use Rattle.std.proofs.Common.{◌≡◌, ℕ, suc, ◌/◌, ◌%◌, ◌^◌, ◌<◌, ◌≤◌, ℤ, pos, negsuc, neg_ℤ, true, unsigned_abs, int_div, int_rem, nat_eq, FitsSigned, w64, arith, ap, ◌∙◌}
+use Rattle.std.proofs.Common.{◌≡◌, ℕ, suc, ◌/◌, ◌%◌, ◌^◌, ◌<◌, ◌≤◌, ℤ, pos, negsuc, neg_ℤ, unsigned_abs, int_div}
+use Rattle.std.proofs.Common.{int_rem, nat_eq, FitsSigned, w64, arith, ap, ◌∙◌}
 use Rattle.std.specs.Int.{w128, cast_unsigned, cast_signed}
 use Rattle.std.specs.Ordering.{int_eq}
 use Rattle.std.proofs.lemmas.Int.{ints, to_z-of_z, fits_signed_from_abs}
 use Rattle.std.proofs.lemmas.Bool.Decides.{nat_tests}
 use Rattle.std.proofs.Math.Nat.{div-le_self, mod-le}
-use Rattle.lattice_theory.specs.Vectors.{is_bounded}
-
--- what the test of the bound says
-pub small_of : (a : ℤ) → is_bounded a ≡ true → unsigned_abs a ≤ 2 ^ 62
-small_of a test = grind (arith, nat_tests)
 
 -- a bounded number fits 64 bits
 pub fits_64 : (a : ℤ) → unsigned_abs a ≤ 2 ^ 62 → FitsSigned w64 a

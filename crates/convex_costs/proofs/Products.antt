@@ -1,22 +1,11 @@
 -- Products of whole numbers, and how large they are.
-use Rattle.std.proofs.Common.{◌≡◌, ℕ, zero, suc, ◌+◌, ◌*◌, ◌≤◌, max, ℤ, pos, negsuc, ◌+ℤ◌, ◌*ℤ◌, neg_ℤ, ◌≤ℤ◌, unsigned_abs, ◌⊎◌, inl, inr, ap, arith, ◌∙◌}
+use Rattle.std.proofs.Common.{◌≡◌, ℕ, suc, ◌+◌, ◌*◌, ◌≤◌, max, ℤ, pos, negsuc, ◌+ℤ◌, ◌*ℤ◌, neg_ℤ, ◌≤ℤ◌, unsigned_abs}
+use Rattle.std.proofs.Common.{◌⊎◌, inl, inr, ap, arith, ◌∙◌}
 use Rattle.std.proofs.lemmas.Int.{ints, unsigned_abs-mul}
-use Rattle.std.proofs.Math.IntN.{zero-*ℤ, suc_ℤ-*ℤ, pred_ℤ-*ℤ, *ℤ_comm}
+use Rattle.std.proofs.Math.IntN.{*ℤ_comm}
 use Rattle.std.proofs.Math.Nat.{mul-le-mul, mul-le-mul_left}
+use Rattle.lattice_laws.proofs.Products.{times_sum}
 use Rattle.convex_costs.specs.Bounds.{terms}
-
--- a product with a sum
-pub times_sum : (a b c : ℤ) → a *ℤ (b +ℤ c) ≡ a *ℤ b +ℤ a *ℤ c
-times_sum (pos zero) b c = omega (arith, ints, zero-*ℤ (b +ℤ c), zero-*ℤ b, zero-*ℤ c)
-times_sum (pos (suc n)) b c =
-    let more = suc_ℤ-*ℤ (pos n) in
-    omega (arith, ints, more (b +ℤ c), more b, more c, times_sum (pos n) b c)
-times_sum (negsuc zero) b c =
-    let less = pred_ℤ-*ℤ (pos zero) in
-    omega (arith, ints, less (b +ℤ c), less b, less c, zero-*ℤ (b +ℤ c), zero-*ℤ b, zero-*ℤ c)
-times_sum (negsuc (suc n)) b c =
-    let less = pred_ℤ-*ℤ (negsuc n) in
-    omega (arith, ints, less (b +ℤ c), less b, less c, times_sum (negsuc n) b c)
 
 -- 1 times a number
 times_one : (a : ℤ) → a *ℤ pos 1 ≡ a
@@ -33,7 +22,13 @@ times_next_square a x =
     let outer = times_next (x +ℤ pos 1) x in
     let turned = *ℤ_comm (x +ℤ pos 1) x in
     let inner = times_next x x in
-    let square : (x +ℤ pos 1) *ℤ (x +ℤ pos 1) ≡ (x *ℤ x +ℤ x) +ℤ (x +ℤ pos 1) = omega (arith, ints, outer, turned, inner) in
+    let square : (x +ℤ pos 1) *ℤ (x +ℤ pos 1) ≡ (x *ℤ x +ℤ x) +ℤ (x +ℤ pos 1) = omega (
+      arith,
+      ints,
+      outer,
+      turned,
+      inner,
+    ) in
     let parts = ap (λ y. a *ℤ y) square ∙ times_sum a (x *ℤ x +ℤ x) (x +ℤ pos 1) in
     omega (arith, ints, parts, times_sum a (x *ℤ x) x, times_next a x)
 

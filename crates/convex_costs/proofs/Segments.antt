@@ -1,9 +1,11 @@
 -- Where a place stands among breakpoints: the search for its line, and how far they reach.
-use Rattle.std.proofs.Common.{◌≡◌, ℕ, zero, suc, ◌+◌, ◌-◌, ◌<◌, ◌≤◌, max, ℤ, ◌≤ℤ◌, ◌<ℤ◌, int_le, int_lt, true, false, List, [], ◌∷◌, length, get_or, ◌&&◌, None, refl, subst, ap, arith, sym, ◌∙◌}
+use Rattle.std.proofs.Common.{◌≡◌, ℕ, zero, suc, ◌+◌, ◌-◌, ◌<◌, ◌≤◌, max, ℤ, ◌≤ℤ◌, ◌<ℤ◌, int_le, int_lt, true, false}
+use Rattle.std.proofs.Common.{List, [], ◌∷◌, length, get_or, ◌&&◌, None, refl, subst, ap, arith, sym, ◌∙◌}
 use Rattle.std.specs.List.Sorted.{IsPartitionedBy, IsPartitionPoint}
 use Rattle.std.proofs.lemmas.Int.{ints}
 use Rattle.fold_theory.specs.declared.Breakpoint.{Breakpoint}
 use Rattle.fold_theory.specs.Costs.{on_lines}
+use Rattle.lattice_laws.proofs.Tests.{int_lt_true, int_lt_false}
 use Rattle.convex_costs.specs.Faults.{first_failing, is_right, covers, last_of}
 use Rattle.convex_costs.proofs.LineLaws.{on_line, on_lines-first, on_lines-later}
 use Rattle.convex_costs.proofs.Neighbours.{rising_at}
@@ -56,13 +58,6 @@ on_lines-next ps next v d from inside before here =
     on_lines-at ps (next - 1) v d (omega arith) (λ i low. before (suc i) (omega arith) (omega arith)) ends
     ∙ ap (λ k. on_line (get_or ps (next - 1) d) (get_or ps k d) v) place
 
--- what the test of order says
-left_of : (a b : ℤ) → int_lt a b ≡ true → a <ℤ b
-left_of a b test = grind (arith, ints)
-
-not_left_of : (a b : ℤ) → int_lt a b ≡ false → b ≤ℤ a
-not_left_of a b test = grind (arith, ints)
-
 -- past the first, all breakpoints are left of v: the last value counts
 on_lines-past : (ps : List Breakpoint) (v : ℤ) (d : Breakpoint) → 1 ≤ length ps →
     ((i : ℕ) → suc i < length ps → (get_or ps (suc i) d).at <ℤ v) → on_lines ps v ≡ (get_or ps (length ps - 1) d).value
@@ -82,12 +77,12 @@ module _ (ps : List Breakpoint) (left next : ℕ) (v : ℤ) (d : Breakpoint) (so
     (is_next : next ≡ max left 1) where
   -- each breakpoint before the found place is left of v
   is_left : (i : ℕ) → i < left → (get_or ps i d).at <ℤ v
-  is_left i below = left_of (get_or ps i d).at v (point.0 i d (omega arith) below)
+  is_left i below = int_lt_true (get_or ps i d).at v (point.0 i d (omega arith) below)
 
   -- the line on which v lies
   pub on_lines-found : next < length ps → on_lines ps v ≡ on_line (get_or ps (next - 1) d) (get_or ps next d) v
   on_lines-found inside =
-      let here = not_left_of (get_or ps next d).at v (point.1 next d (omega arith) inside) in
+      let here = int_lt_false (get_or ps next d).at v (point.1 next d (omega arith) inside) in
       on_lines-next ps next v d (omega arith) inside (λ i from below. is_left i (omega (arith, from, below))) here
 
   -- or none, and the last value counts

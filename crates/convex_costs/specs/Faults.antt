@@ -1,5 +1,6 @@
 -- Which costs are refused over their bounds, and for which fault: the first one in the order of the faults.
-use Rattle.std.specs.Prelude.{ℕ, suc, ◌^◌, ℤ, pos, ◌-ℤ◌, int_lt, int_le, int_rem, nat_lt, Bool, false, ◌&&◌, List, [], ◌∷◌, cond, Option, Some, None}
+use Rattle.std.specs.Prelude.{ℕ, suc, ◌^◌, ℤ, pos, ◌-ℤ◌, int_lt, int_le, int_rem, nat_lt, Bool, false, ◌&&◌, List, []}
+use Rattle.std.specs.Prelude.{◌∷◌, cond, Option, Some, None}
 use Rattle.std.specs.Option.{option_or, option_map}
 use Rattle.std.specs.Ordering.{int_eq}
 use Rattle.fold_theory.specs.declared.Cost.{Cost}
@@ -7,7 +8,8 @@ use Rattle.fold_theory.specs.declared.Cost.TheVariants.{Quadratic, Points}
 use Rattle.fold_theory.specs.declared.Breakpoint.{Breakpoint}
 use Rattle.fold_theory.specs.Costs.{slope, magnitude}
 use Rattle.convex_costs.specs.declared.fault.CostFault.{CostFault}
-use Rattle.convex_costs.specs.declared.fault.CostFault.TheVariants.{NotRising, SlopeNotWhole, NotConvex, NotCovered, TooLarge}
+use Rattle.convex_costs.specs.declared.fault.CostFault.TheVariants.{NotRising, SlopeNotWhole, NotConvex, NotCovered}
+use Rattle.convex_costs.specs.declared.fault.CostFault.TheVariants.{TooLarge}
 
 -- the second breakpoint is right of the first
 abbrev pub is_right : Breakpoint → Breakpoint → Bool
@@ -28,7 +30,8 @@ abbrev pub first_bend : ℕ → List Breakpoint → Option ℕ
 first_bend j [] = None
 first_bend j (p ∷ []) = None
 first_bend j (p ∷ q ∷ []) = None
-first_bend j (p ∷ q ∷ r ∷ ps) = cond (int_le (slope p q) (slope q r)) (first_bend (suc j) (q ∷ r ∷ ps)) (Some (suc (suc j)))
+first_bend j (p ∷ q ∷ r ∷ ps) = cond (int_le (slope p q) (slope q r)) (first_bend (suc j) (q ∷ r ∷ ps))
+    (Some (suc (suc j)))
 
 -- the last breakpoint of those that begin with p
 abbrev pub last_of : Breakpoint → List Breakpoint → Breakpoint

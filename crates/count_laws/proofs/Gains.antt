@@ -1,6 +1,7 @@
 -- What a part of the way to another point gains. The gains along a piece of the way have falling increments, so what so
 -- many times a piece gains is at most twice the greatest gain of a candidate step.
-use Rattle.std.proofs.Common.{◌≡◌, ℕ, suc, ◌+◌, ◌-◌, ◌<◌, ◌≤◌, ◌^◌, ℤ, pos, ◌+ℤ◌, ◌-ℤ◌, ◌≤ℤ◌, true, false, List, [], ◌∷◌, length, refl, ap, arith, sym, ◌∙◌, Contains, inl, inr, subst}
+use Rattle.std.proofs.Common.{◌≡◌, ℕ, suc, ◌+◌, ◌-◌, ◌<◌, ◌≤◌, ◌^◌, ℤ, pos, ◌+ℤ◌, ◌-ℤ◌, ◌≤ℤ◌, true, false, List, []}
+use Rattle.std.proofs.Common.{◌∷◌, length, refl, ap, arith, sym, ◌∙◌, Contains, inl, inr, subst}
 use Rattle.std.proofs.lemmas.Int.{ints, by_lt_z}
 use Rattle.std.proofs.lemmas.List.Elements.{All-from_recursion}
 use Rattle.std.specs.List.{list_all}
@@ -17,7 +18,8 @@ use Rattle.piece_laws.proofs.Points.{forth-sized, parts-sized, image-forth, imag
 use Rattle.count_laws.proofs.Half.{Concave, half}
 use Rattle.count_laws.proofs.PowersOfTwo.{power_some, power_below}
 use Rattle.count_laws.proofs.Clipped.{times}
-use Rattle.count_laws.proofs.Times.{vector_twice, length-times, times-sized, image-times, fewer_below, fewer_times, along, moved_along, along_none, along_next, along_back, along_parts, length-along}
+use Rattle.count_laws.proofs.Times.{vector_twice, length-times, times-sized, image-times, fewer_below, fewer_times}
+use Rattle.count_laws.proofs.Times.{along, moved_along, along_none, along_next, along_back, along_parts, length-along}
 use Rattle.count_laws.proofs.Lengths.{times_fit}
 use Rattle.run_theory.specs.Starts.{IsStart}
 use Rattle.piece_laws.specs.Pieces.{Piece}

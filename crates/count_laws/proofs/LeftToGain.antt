@@ -1,6 +1,7 @@
 -- What is left to gain at a point: no other point that is where the phase wants it is better by more than the bound
 -- number times the greatest gain of a candidate step.
-use Rattle.std.proofs.Common.{◌≡◌, ℕ, zero, suc, ◌+◌, ◌*◌, ◌<◌, ◌≤◌, pos, ◌+ℤ◌, ◌-ℤ◌, ◌≤ℤ◌, List, [], ◌∷◌, length, refl, ap, arith, sym, ◌∙◌, inl, inr, subst}
+use Rattle.std.proofs.Common.{◌≡◌, ℕ, zero, suc, ◌+◌, ◌*◌, ◌<◌, ◌≤◌, pos, ◌+ℤ◌, ◌-ℤ◌, ◌≤ℤ◌, List, [], ◌∷◌, length, refl}
+use Rattle.std.proofs.Common.{ap, arith, sym, ◌∙◌, inl, inr, subst}
 use Rattle.std.proofs.lemmas.Int.{ints}
 use Rattle.std.proofs.lemmas.Bool.{cases_lt}
 use Rattle.std.proofs.Math.Nat.{mul-le-mul_left, mul-pos}
@@ -12,7 +13,7 @@ use Rattle.run_theory.specs.Steps.{Augments, gain}
 use Rattle.run_theory.specs.Outcomes.{widest_entry, bound_number}
 use Rattle.lattice_laws.specs.VectorLists.{sum_of, weight, AreSized}
 use Rattle.piece_laws.specs.Points.{back, way, image}
-use Rattle.piece_laws.proofs.Points.{parts-sized, image-back, nearer, same_point, point-length}
+use Rattle.piece_laws.proofs.Points.{parts-sized, image-back, nearer, same_point}
 use Rattle.piece_laws.proofs.OnePiece.{Frame}
 use Rattle.count_laws.proofs.Clipped.{clipped, clipped_most, times, all_clipped, all_clipped_most}
 use Rattle.count_laws.proofs.Times.{weight-times, image-times, times-still}
@@ -23,6 +24,7 @@ use Rattle.run_theory.specs.Starts.{IsStart}
 use Rattle.piece_laws.specs.Pieces.{Piece}
 use Rattle.piece_laws.proofs.Least.{piece_of_way}
 use Rattle.std.proofs.lemmas.List.Elements.{length_all_zip}
+use Rattle.fold_laws.proofs.Points.{point-length}
 
 module _ (p : Program) (phase : Phase) (program : IsProgram p) (x : Bricks) (at_x : IsStart p phase x)
     (gens zs : List Vector) (bound : ℕ) (frame : Frame p phase gens zs bound) (most : ℕ)

@@ -1,5 +1,6 @@
 -- A multiple of a move that is not 0, as a part of the way between two points within the bounds, is a step length.
-use Rattle.std.proofs.Common.{◌≡◌, ℕ, ◌*◌, ◌<◌, ◌≤◌, max, ℤ, pos, ◌-ℤ◌, ◌*ℤ◌, ◌≤ℤ◌, unsigned_abs, true, List, [], ◌∷◌, ◌++◌, ap, arith, ◌∙◌, inl, inr}
+use Rattle.std.proofs.Common.{◌≡◌, ℕ, ◌*◌, ◌<◌, ◌≤◌, max, ℤ, pos, ◌-ℤ◌, ◌*ℤ◌, ◌≤ℤ◌, unsigned_abs, true, List, [], ◌∷◌}
+use Rattle.std.proofs.Common.{ap, arith, ◌∙◌, inl, inr}
 use Rattle.std.proofs.lemmas.Int.{ints, unsigned_abs-mul}
 use Rattle.std.proofs.lemmas.Bool.{cases_lt}
 use Rattle.std.proofs.lemmas.List.Concat.{flat_map-cons}
@@ -11,6 +12,7 @@ use Rattle.lattice_laws.proofs.Signs.{abs_split}
 use Rattle.lattice_laws.proofs.Conformal.{norm1-cons}
 use Rattle.fold_theory.specs.Programs.{Brick, Bricks, AreWithin}
 use Rattle.lattice_laws.specs.VectorLists.{weight}
+use Rattle.lattice_laws.proofs.Members.{greatest-append}
 use Rattle.piece_laws.specs.Points.{way}
 use Rattle.count_laws.proofs.Clipped.{times}
 use Rattle.std.proofs.Math.Nat.{le-mul_of_pos_right}
@@ -49,10 +51,6 @@ vector_fits m (l ∷ lower) (u ∷ upper) (p ∷ x) (q ∷ y) (k ∷ d) lx ux ly
             vector_fits m lower upper x y d lx.1 ux.1 ly.1 uy.1 parts.1 (omega (arith, none, some, norm1-cons k d)),
           )
     ]
-
-greatest-append : (xs ys : List ℕ) → greatest (xs ++ ys) ≡ max (greatest xs) (greatest ys)
-greatest-append [] ys = omega arith
-greatest-append (x ∷ xs) ys = omega (arith, greatest-append xs ys)
 
 abbrev all_widths : List Brick → ℕ
 all_widths bs = greatest (flat_map (λ b. widths b.lower b.upper) bs)

@@ -1,5 +1,6 @@
 -- So many times a move: the points along it, their sums and images, and that the changes of the phase cost fall.
-use Rattle.std.proofs.Common.{◌≡◌, ℕ, suc, ◌+◌, ◌*◌, ◌≤◌, ◌^◌, ℤ, pos, ◌+ℤ◌, ◌-ℤ◌, ◌*ℤ◌, true, ◌&&◌, [], ◌∷◌, length, refl, ap, arith, sym, ◌∙◌}
+use Rattle.std.proofs.Common.{◌≡◌, ℕ, suc, ◌+◌, ◌*◌, ◌≤◌, ◌^◌, ℤ, pos, ◌+ℤ◌, ◌-ℤ◌, ◌*ℤ◌, true, ◌&&◌, [], ◌∷◌, length}
+use Rattle.std.proofs.Common.{refl, ap, arith, sym, ◌∙◌}
 use Rattle.std.proofs.lemmas.Int.{ints}
 use Rattle.std.proofs.lemmas.Bool.Decides.{nat_tests}
 use Rattle.std.proofs.Math.IntN.{suc_ℤ-*ℤ}
@@ -11,7 +12,8 @@ use Rattle.lattice_laws.proofs.Conformal.{conforms_trans}
 use Rattle.fold_theory.specs.Programs.{Program, Bricks}
 use Rattle.run_theory.specs.Steps.{moved}
 use Rattle.lattice_laws.proofs.Sums.{add_zeros}
-use Rattle.lattice_laws.proofs.Multiples.{scale_zero, scale-zeros, length-scale, rows-scale, norm-scale, scale_once, scale-below, scale-add}
+use Rattle.lattice_laws.proofs.Multiples.{scale_zero, scale-zeros, length-scale, rows-scale, norm-scale, scale_once}
+use Rattle.lattice_laws.proofs.Multiples.{scale-below, scale-add}
 use Rattle.lattice_laws.specs.VectorLists.{AreSized, sum_of, weight}
 use Rattle.piece_laws.specs.Points.{forth, back, ArePartsOf}
 use Rattle.count_laws.proofs.Clipped.{times}

@@ -1,6 +1,7 @@
 -- What the greatest multiple of a part uses up of the way: where no entry of the part is past a bound, what is left
 -- counts less up to that bound. No entry of a listed sum, and none of its image, is past the widest entry.
-use Rattle.std.proofs.Common.{◌≡◌, ℕ, zero, suc, ◌+◌, ◌<◌, ◌≤◌, pos, unsigned_abs, Bool, true, false, ◌&&◌, List, [], ◌∷◌, ◌++◌, map, refl, ap, arith, ◌∙◌, Contains, inl, inr, subst}
+use Rattle.std.proofs.Common.{◌≡◌, ℕ, zero, suc, ◌+◌, ◌<◌, ◌≤◌, pos, unsigned_abs, Bool, true, false, ◌&&◌, List, []}
+use Rattle.std.proofs.Common.{◌∷◌, ◌++◌, map, refl, ap, arith, ◌∙◌, Contains, inl, inr, subst}
 use Rattle.std.specs.List.{AllZip, AllByRecursion}
 use Rattle.lattice_theory.specs.Lists.{greatest, all_zip}
 use Rattle.lattice_theory.specs.Vectors.{Vector, ◌⊑◌, conforms, add, sub, scale, zeros}
@@ -18,7 +19,8 @@ use Rattle.lattice_laws.proofs.Multiples.{scale_once}
 use Rattle.lattice_laws.proofs.VectorLists.{length-sum}
 use Rattle.piece_laws.specs.Points.{back}
 use Rattle.piece_laws.proofs.Points.{walk_end_is}
-use Rattle.count_laws.proofs.Clipped.{IsNarrow, clipped, clipped_no_more, clipped_less, times, all_clipped, all_no_more, all_less, all_below, all_below_test}
+use Rattle.count_laws.proofs.Clipped.{IsNarrow, clipped, clipped_no_more, clipped_less, times, all_clipped, all_no_more}
+use Rattle.count_laws.proofs.Clipped.{all_less, all_below, all_below_test}
 use Rattle.count_laws.proofs.Times.{times_once, weight-times}
 use Rattle.lattice_laws.proofs.Members.{at_most_greatest}
 use Rattle.std.proofs.Math.Nat.{le-mul_of_pos_right}

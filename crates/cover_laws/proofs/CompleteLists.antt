@@ -1,7 +1,9 @@
 -- A list that is complete for a lattice by Pottier's criterion gives each element of the lattice as a conformal sum of
 -- signed members, and so covers the lattice. After L. Pottier, "Minimal solutions of linear diophantine systems"
 -- (1991), and R. Hemmecke, "On the computation of Hilbert bases and extreme rays of cones" (2002).
-use Rattle.std.proofs.Common.{◌≡◌, ℕ, zero, suc, ◌+◌, ◌<◌, ◌≤◌, ℤ, pos, negsuc, ◌+ℤ◌, ◌*ℤ◌, Bool, true, ◌&&◌, nat_eq, List, ◌∷◌, ◌++◌, length, take, drop, refl, ap, arith, sym, ◌∙◌, Contains, inl, inr, subst, length-append, []}
+use Rattle.std.proofs.Common.{◌≡◌, ℕ, zero, suc, ◌+◌, ◌<◌, ◌≤◌, ℤ, pos, negsuc, ◌+ℤ◌, ◌*ℤ◌, Bool, true, ◌&&◌, nat_eq}
+use Rattle.std.proofs.Common.{List, ◌∷◌, ◌++◌, length, take, drop, refl, ap, arith, sym, ◌∙◌, Contains, inl, inr, subst}
+use Rattle.std.proofs.Common.{length-append, []}
 use Rattle.std.proofs.lemmas.Int.{ints}
 use Rattle.std.proofs.lemmas.Bool.{cases_eq}
 use Rattle.std.proofs.lemmas.List.{append-nil}

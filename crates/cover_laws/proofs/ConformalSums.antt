@@ -1,12 +1,14 @@
 -- Sums of signed members of a list. Where two terms clash, and the sum of the two is one of lighter terms, the terms
 -- can be changed for lighter ones with the same sum, until none clash; then each term is below the sum.
-use Rattle.std.proofs.Common.{◌≡◌, ℕ, zero, suc, ◌+◌, ◌<◌, false, List, ◌∷◌, refl, ap, arith, sym, ◌∙◌, inl, inr, subst, []}
+use Rattle.std.proofs.Common.{◌≡◌, ℕ, zero, suc, ◌+◌, ◌<◌, false, List, ◌∷◌, refl, ap, arith, sym, ◌∙◌, inl, inr, subst}
+use Rattle.std.proofs.Common.{[]}
 use Rattle.lattice_theory.specs.Vectors.{Vector, norm1, add}
 use Rattle.lattice_laws.proofs.Conformal.{agree}
 use Rattle.lattice_laws.proofs.Sums.{add_assoc_v, add_swap}
 use Rattle.lattice_laws.proofs.Agreement.{norm_clash}
 use Rattle.lattice_laws.specs.VectorLists.{sum_of, weight}
-use Rattle.lattice_laws.proofs.VectorLists.{weight_append, agreeing_below, ClashesWithOne, ClashingPair, agreeing_or_clashing}
+use Rattle.lattice_laws.proofs.VectorLists.{weight_append, agreeing_below, ClashesWithOne, ClashingPair}
+use Rattle.lattice_laws.proofs.VectorLists.{agreeing_or_clashing}
 use Rattle.cover_laws.specs.ConformalSums.{IsTerm, AreTerms, Spanned, ConformalSum}
 use Rattle.cover_laws.proofs.Terms.{Lightly, spanned_add, terms_sized}
 

@@ -1,12 +1,15 @@
 -- Lists of elements that cover a lattice: a reduction by such a list ends only where no member is below, so each
 -- element reduces to 0, and the list passes Pottier's criterion.
-use Rattle.std.proofs.Common.{◌≡◌, ℕ, zero, suc, ◌*◌, ◌<◌, ◌≤◌, pos, Bool, true, false, cond, List, [], ◌∷◌, Option, Some, None, refl, ap, arith, sym, ◌∙◌, Contains, inl, inr, subst, ◌&&◌}
+use Rattle.std.proofs.Common.{◌≡◌, ℕ, zero, suc, ◌*◌, ◌<◌, ◌≤◌, pos, Bool, true, false, cond, List, [], ◌∷◌, Option}
+use Rattle.std.proofs.Common.{Some, None, refl, ap, arith, sym, ◌∙◌, Contains, inl, inr, subst, ◌&&◌}
 use Rattle.lattice_theory.specs.Vectors.{Vector, ◌⊑◌, conforms, is_zero, norm1, sub, scale, opposite, add, is_rising}
 use Rattle.lattice_theory.specs.Matrices.{Matrix, element, unit_vector}
-use Rattle.lattice_theory.specs.Lattices.{InLattice, greatest_multiple, first_below, reduced_within, reduces_to_zero, is_signed_element, is_complete_for}
+use Rattle.lattice_theory.specs.Lattices.{InLattice, greatest_multiple, first_below, reduced_within, reduces_to_zero}
+use Rattle.lattice_theory.specs.Lattices.{is_signed_element, is_complete_for}
 use Rattle.lattice_laws.proofs.Tests.{not_both, true_or_false}
 use Rattle.lattice_laws.proofs.Members.{contains_cases, list_all_of}
-use Rattle.lattice_laws.proofs.Conformal.{norm_none, norm_some, norm_split, nonzero_by_take, opposite-opposite, opposite_nonzero}
+use Rattle.lattice_laws.proofs.Conformal.{norm_none, norm_some, norm_split, nonzero_by_take, opposite-opposite}
+use Rattle.lattice_laws.proofs.Conformal.{opposite_nonzero}
 use Rattle.lattice_laws.proofs.Elements.{element_in, closed_add, closed_sub, closed_opposite, closed_times}
 use Rattle.lattice_laws.proofs.SlackBases.{IsSigned, Covers}
 use Rattle.cover_laws.specs.Elements.{IsNonzeroElement}

@@ -1,13 +1,14 @@
 -- The kernel of a slack basis is the Graver basis of the matrix.
-use Rattle.std.proofs.Common.{◌≡◌, zero, suc, pos, negsuc, true, false, List, ◌∷◌, ◌++◌, length, take, drop, refl, ap, sym, ◌∙◌, subst, arith, All, Contains, IsTrue, []}
+use Rattle.std.proofs.Common.{◌≡◌, zero, suc, pos, negsuc, true, false, List, ◌∷◌, ◌++◌, length, take, drop, refl, ap}
+use Rattle.std.proofs.Common.{sym, ◌∙◌, subst, arith, All, Contains, IsTrue, []}
 use Rattle.std.specs.List.{filter}
 use Rattle.std.proofs.lemmas.List.{take_at, drop_at}
-use Rattle.std.proofs.lemmas.List.Elements.{All-from_recursion}
+use Rattle.std.proofs.lemmas.List.Elements.{All-from_recursion, All-contains}
 use Rattle.lattice_theory.specs.Vectors.{Vector, ◌⊑◌, is_zero, leads_positive, zeros, norm1}
 use Rattle.lattice_theory.specs.Matrices.{Matrix, product, element}
 use Rattle.lattice_theory.specs.Lattices.{IsMinimal, IsSlackBasis, kernel}
-use Rattle.lattice_laws.proofs.Conformal.{conforms_refl, conforms-take, conforms-append, norm_below, norm_none, norm_of_zero, nonzero_by_take, leads-append, leads_nonzero, conforms-drop}
-use Rattle.std.proofs.lemmas.List.Elements.{All-contains}
+use Rattle.lattice_laws.proofs.Conformal.{conforms_refl, conforms-take, conforms-append, norm_below, norm_none}
+use Rattle.lattice_laws.proofs.Conformal.{norm_of_zero, nonzero_by_take, leads-append, leads_nonzero, conforms-drop}
 use Rattle.lattice_laws.proofs.Members.{mapped_from, filtered_from, each_member}
 use Rattle.lattice_laws.proofs.Tests.{not_both}
 use Rattle.lattice_laws.proofs.Products.{zeros_is, length-rows}

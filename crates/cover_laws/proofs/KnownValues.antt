@@ -1,15 +1,13 @@
 -- Members of lattices and Graver bases at matrices worked by hand: the rows (1 1) and (1 2).
-use Rattle.std.proofs.Common.{inl, arith}
+use Rattle.std.proofs.Common.{inl, arith, []}
 use Rattle.cover_laws.specs.ConformalSums.{ConformalSum}
-use Rattle.lattice_theory.specs.Vectors.{Vector}
+use Rattle.lattice_theory.specs.Vectors.{Vector, conforms, is_zero}
 use Rattle.std.specs.Prelude.{List, ◌≡◌, pos, neg_ℤ, ◌∷◌, true, false, refl}
-use Rattle.lattice_theory.specs.Vectors.{conforms, is_zero}
 use Rattle.lattice_theory.specs.Matrices.{Matrix, product}
 use Rattle.lattice_theory.specs.Lattices.{kernel}
 use Rattle.cover_laws.specs.Graver.{IsInKernel}
 use Rattle.lattice_theory.proofs.KnownValues.{minus, three}
 use Rattle.cover_laws.specs.Elements.{IsNonzeroElement}
-use Rattle.std.proofs.Common.{[]}
 
 -- ---- the Graver basis of the row (1 2)
 

@@ -1,12 +1,14 @@
 -- Parts of a vector by a list that is complete for a lattice: vectors that are not 0 and whose elements are conformally
 -- below that of the vector.
-use Rattle.std.proofs.Common.{◌≡◌, ℕ, true, false, List, length, take, drop, ap, sym, ◌∙◌, Contains, ◌⊎◌, inl, inr, subst}
+use Rattle.std.proofs.Common.{◌≡◌, ℕ, true, false, List, length, take, drop, ap, sym, ◌∙◌, Contains, ◌⊎◌, inl, inr}
+use Rattle.std.proofs.Common.{subst}
 use Rattle.std.proofs.lemmas.List.{take_at, drop_at}
 use Rattle.std.proofs.lemmas.List.Elements.{All-contains}
 use Rattle.lattice_theory.specs.Vectors.{Vector, ◌⊑◌, is_zero, opposite}
 use Rattle.lattice_theory.specs.Matrices.{Matrix, product, element}
 use Rattle.lattice_theory.specs.Lattices.{InLattice, is_complete_for, first_parts}
-use Rattle.lattice_laws.proofs.Conformal.{conforms-take, opposite-opposite, opposite_nonzero, opposite-take, nonzero_by_take, conforms-drop}
+use Rattle.lattice_laws.proofs.Conformal.{conforms-take, opposite-opposite, opposite_nonzero, opposite-take}
+use Rattle.lattice_laws.proofs.Conformal.{nonzero_by_take, conforms-drop}
 use Rattle.lattice_laws.proofs.Elements.{closed_opposite, element_in}
 use Rattle.lattice_laws.proofs.SlackBases.{IsSigned}
 use Rattle.cover_laws.specs.Elements.{IsNonzeroElement}

@@ -1,10 +1,12 @@
 -- Reductions: what reduces to 0 is a sum of signed members that weigh no more, and Pottier's criterion on a list makes
 -- the sum of each two signed members such a sum.
-use Rattle.std.proofs.Common.{◌≡◌, ℕ, zero, suc, ◌+◌, ◌≤◌, pos, Bool, true, false, cond, Option, Some, None, List, ◌∷◌, length, refl, ap, arith, sym, ◌∙◌, Contains, inl, inr, subst, []}
+use Rattle.std.proofs.Common.{◌≡◌, ℕ, zero, suc, ◌+◌, ◌≤◌, pos, Bool, true, false, cond, Option, Some, None, List, ◌∷◌}
+use Rattle.std.proofs.Common.{length, refl, ap, arith, sym, ◌∙◌, Contains, inl, inr, subst, []}
 use Rattle.lattice_theory.specs.Vectors.{Vector, ◌⊑◌, conforms, is_zero, norm1, add, sub, scale, opposite, zeros}
 use Rattle.lattice_theory.specs.Lattices.{first_below, reduced_within, reduces_to_zero, greatest_multiple}
 use Rattle.lattice_laws.proofs.Members.{contains_head, contains_tail}
-use Rattle.lattice_laws.proofs.Conformal.{length-add, length_below, rest_below, add_rest, norm_split, length-opposite, opposite-opposite, opposite-add, sub-opposite}
+use Rattle.lattice_laws.proofs.Conformal.{length-add, length_below, rest_below, add_rest, norm_split, length-opposite}
+use Rattle.lattice_laws.proofs.Conformal.{opposite-opposite, opposite-add, sub-opposite}
 use Rattle.lattice_laws.proofs.Products.{zeros_is}
 use Rattle.lattice_laws.proofs.SlackBases.{IsSigned}
 use Rattle.lattice_laws.proofs.Sums.{length-sub}

@@ -1,5 +1,6 @@
 -- Sums of signed members of a list: their sums, opposites and multiples are such sums.
-use Rattle.std.proofs.Common.{◌≡◌, ℕ, zero, suc, ◌+◌, ◌≤◌, List, ◌∷◌, ◌++◌, length, map, pos, refl, ap, arith, sym, ◌∙◌, subst, []}
+use Rattle.std.proofs.Common.{◌≡◌, ℕ, zero, suc, ◌+◌, ◌≤◌, List, ◌∷◌, ◌++◌, length, map, pos, refl, ap, arith, sym, ◌∙◌}
+use Rattle.std.proofs.Common.{subst, []}
 use Rattle.lattice_theory.specs.Vectors.{Vector, norm1, add, scale, opposite, zeros}
 use Rattle.lattice_laws.proofs.Conformal.{length-opposite, norm-opposite}
 use Rattle.lattice_laws.proofs.SlackBases.{signed_opposite}

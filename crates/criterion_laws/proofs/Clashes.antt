@@ -1,5 +1,6 @@
 -- The first clash of two vectors is the one entry after which the pair counts.
-use Rattle.std.proofs.Common.{◌≡◌, ℕ, zero, suc, ◌≤◌, ℤ, pos, Bool, true, false, not, ◌&&◌, cond, [], ◌∷◌, take, Option, Some, None, refl, ap, arith, ◌∙◌}
+use Rattle.std.proofs.Common.{◌≡◌, ℕ, zero, suc, ◌≤◌, ℤ, pos, Bool, true, false, not, ◌&&◌, cond, [], ◌∷◌, take, Option}
+use Rattle.std.proofs.Common.{Some, None, refl, ap, arith, ◌∙◌}
 use Rattle.std.specs.Option.{option_map}
 use Rattle.std.proofs.lemmas.Int.{ints}
 use Rattle.std.proofs.lemmas.Bool.Decides.{nat_tests}
@@ -16,7 +17,8 @@ zero_agrees x = grind (arith, nat_tests, ints)
 -- what counts clashes there, and agrees before
 pub counts_clash : (at : ℕ) (u v : Vector) → counts at u v ≡ true → first_clash u v ≡ Some at
 counts_clash at [] v counted =
-    absurd (not_both (agrees (new_entry at []) (new_entry at v)) (zero_agrees (new_entry at v)) (counts_parts at [] v counted).1)
+    absurd (not_both (agrees (new_entry at []) (new_entry at v)) (zero_agrees (new_entry at v))
+    (counts_parts at [] v counted).1)
 counts_clash at (a ∷ u) [] counted =
     let clash = (counts_parts at (a ∷ u) [] counted).1 in
     let x = new_entry at (a ∷ u) in
@@ -36,7 +38,8 @@ pub clash_agrees : (at : ℕ) (u v : Vector) → first_clash u v ≡ Some at →
 clash_agrees at [] v first = absurd (cc)
 clash_agrees at (a ∷ u) [] first = absurd (cc)
 clash_agrees zero (a ∷ u) (b ∷ v) first = refl
-clash_agrees (suc at) (a ∷ u) (b ∷ v) first = by (agrees a b) refl (first_clash u v) refl first (λ k. clash_agrees at u v k)
+clash_agrees (suc at) (a ∷ u) (b ∷ v) first = by (agrees a b) refl (first_clash u v) refl first
+    (λ k. clash_agrees at u v k)
   where
     by : (t : Bool) → agrees a b ≡ t → (o : Option ℕ) → first_clash u v ≡ o →
         cond t (option_map suc o) (Some 0) ≡ Some (suc at) →

@@ -1,31 +1,34 @@
--- The members cut after the entries of the first rows: where each unit vector has its element and clashes are settled by
+-- The members cut after the entries of the first rows: where each unit vector has its element and clashes are settled
+-- by
 -- prefixes, they cover the lattice of the first rows, by one row after the other.
-use Rattle.std.proofs.Common.{◌≡◌, ℕ, zero, suc, ◌+◌, ◌<◌, ◌≤◌, pos, nat_lt, Bool, true, false, not, ◌&&◌, ◌||◌, List, [], ◌∷◌, length, map, take, drop, get_or, Option, Some, None, ap, arith, sym, ◌∙◌, Contains, inl, inr, subst, length-take}
+use Rattle.std.proofs.Common.{◌≡◌, ℕ, zero, suc, ◌+◌, ◌<◌, ◌≤◌, pos, nat_lt, Bool, true, false, not, ◌&&◌, ◌||◌, List}
+use Rattle.std.proofs.Common.{[], ◌∷◌, length, map, take, drop, get_or, Option, Some, None, ap, arith, sym, ◌∙◌}
+use Rattle.std.proofs.Common.{Contains, inl, inr, subst, length-take}
 use Rattle.std.specs.List.{AllPairs, list_all, list_any}
-use Rattle.std.proofs.lemmas.List.{length-map, get_or-map, get_or-take, take_at, take_all, take_more, take-take, take-append-drop}
+use Rattle.std.proofs.lemmas.List.{get_or-take, take_at, take_all, take_more, take-take}
 use Rattle.std.proofs.lemmas.List.Elements.{Contains-get_or}
 use Rattle.std.proofs.lemmas.List.Kept.{AllPairs-cons}
+use Rattle.std.proofs.lemmas.Bool.{or_cases}
 use Rattle.lattice_theory.specs.Vectors.{Vector, ◌⊑◌, conforms, is_zero, norm1, add, opposite}
 use Rattle.lattice_theory.specs.Matrices.{Matrix, element, product, unit_vector}
 use Rattle.lattice_theory.specs.Lattices.{InLattice}
-use Rattle.lattice_laws.proofs.Tests.{and_true}
-use Rattle.lattice_laws.proofs.Members.{contains_cases, contains_head, contains_tail, list_all_at}
+use Rattle.lattice_laws.proofs.Tests.{and_true, lt_true}
+use Rattle.lattice_laws.proofs.Members.{contains_cases, contains_head, contains_tail, list_all_at, mapped}
+use Rattle.lattice_laws.proofs.Members.{list_any_gives}
 use Rattle.lattice_laws.proofs.Signs.{agrees}
-use Rattle.lattice_laws.proofs.Conformal.{agree, nonzero_by_take, opposite-opposite, opposite_nonzero, opposite-take, take-add}
+use Rattle.lattice_laws.proofs.Conformal.{agree, nonzero_by_take, opposite-opposite, opposite_nonzero, opposite-take}
+use Rattle.lattice_laws.proofs.Conformal.{take-add}
 use Rattle.lattice_laws.proofs.Elements.{width, with_rows, width-with_rows, cut_in, cut_nonzero, closed_opposite}
+use Rattle.lattice_laws.proofs.Elements.{first_rows, rows_apart}
 use Rattle.lattice_laws.proofs.SlackBases.{IsSigned, IsReducible, Covers}
 use Rattle.lattice_laws.proofs.UnitVectors.{without_rows, length-unit, first_units, units_cover}
 use Rattle.lattice_laws.proofs.Completion.{counts, CoversCut, Settles, pairs_reduce, completed}
 use Rattle.cover_laws.specs.Elements.{IsNonzeroElement}
 use Rattle.criterion_laws.specs.Prefixes.{is_below_in, clash_settles, pair_settles, clashes_settle}
-use Rattle.criterion_laws.proofs.Tests.{list_any_gives, nat_lt_true, or_cases}
 use Rattle.criterion_laws.proofs.Units.{units_have}
 use Rattle.criterion_laws.proofs.Clashes.{counts_clash}
 
 -- ---- lists of cut vectors
-
-pub contains-map : (f : Vector → Vector) (vs : List Vector) (v : Vector) → Contains vs v → Contains (map f vs) (f v)
-contains-map f vs v (k, low, e) = (k, omega (arith, length-map vs f), get_or-map f vs k v (f v) low ∙ ap f e)
 
 -- a member of the list of images is the image of a member
 mapped_member : (f : Vector → Vector) (vs : List Vector) (y : Vector) → Contains (map f vs) y →
@@ -48,9 +51,9 @@ signed_cut n vs e (inr c) =
     )
 
 cut_signed : (n : ℕ) (vs : List Vector) (x : Vector) → IsSigned vs x → IsSigned (map (take n) vs) (take n x)
-cut_signed n vs x (inl c) = inl (contains-map (take n) vs x c)
+cut_signed n vs x (inl c) = inl (mapped (take n) vs x c)
 cut_signed n vs x (inr c) =
-    inr (subst (Contains (map (take n) vs)) (sym (opposite-take n x)) (contains-map (take n) vs (opposite x) c))
+    inr (subst (Contains (map (take n) vs)) (sym (opposite-take n x)) (mapped (take n) vs (opposite x) c))
 
 -- a list with the members of one that covers covers too
 covers_wider : (m : Matrix) (us vs : List Vector) → Covers m us → ((v : Vector) → Contains us v → Contains vs v) →
@@ -95,7 +98,7 @@ module _ (m : Matrix) (row : Vector) (at : ℕ) (size : width m ≡ at) (basis :
       let low = nat_lt at m.cols in
       let any = list_any (is_below_in (suc at) (add f h)) basis in
       subst (IsReducible cuts) (take-add (suc at) f h) (elim (or_cases low any some) [
-        | inl less ↦ absurd (omega (arith, nat_lt_true at m.cols less, size))
+        | inl less ↦ absurd (omega (arith, lt_true at m.cols less, size))
         | inr found ↦ let r = list_any_gives (is_below_in (suc at) (add f h)) basis found in below r.0 r.1 r.2
       ])
     where
@@ -109,7 +112,7 @@ module _ (m : Matrix) (row : Vector) (at : ℕ) (size : width m ≡ at) (basis :
       below : (e : Vector) → Contains basis e → is_below_in (suc at) (add f h) e ≡ true →
           IsReducible cuts (take (suc at) (add f h))
       below e c passes = elim (or_cases (prefix e) (prefix (opposite e)) passes) [
-        | inl b ↦ (take (suc at) e, inl (contains-map (take (suc at)) basis e c), b)
+        | inl b ↦ (take (suc at) e, inl (mapped (take (suc at)) basis e c), b)
         | inr b ↦ (
           take (suc at) (opposite e),
           cut_signed (suc at) basis (opposite e) (inr (subst (Contains basis) (sym (opposite-opposite e)) c)),
@@ -197,13 +200,6 @@ module _ (m : Matrix) (row : Vector) (at : ℕ) (size : width m ≡ at) (basis :
 
 -- ---- all rows
 
--- the matrix of the first rows
-abbrev pub first_rows : ℕ → Matrix → Matrix
-first_rows n m = record { cols = m.cols; rows = take n m.rows }
-
-rows_apart : (n : ℕ) (m : Matrix) → with_rows (first_rows n m) (drop n m.rows) ≡ m
-rows_apart n m = ap (λ rows. record { cols = m.cols; rows = rows }) (take-append-drop n m.rows)
-
 next_rows : (n : ℕ) (m : Matrix) → n < length m.rows →
     with_rows (first_rows n m) (get_or m.rows n [] ∷ []) ≡ first_rows (n + 1) m
 next_rows n m low = ap (λ rows. record { cols = m.cols; rows = rows }) (sym (take_more m.rows n [] low))
@@ -236,7 +232,7 @@ module _ (m : Matrix) (basis : List Vector) (elements : (z : Vector) → Contain
       let unit = unit_vector m.cols j in
       subst (Contains (map (take (m.cols + 0)) basis))
       (take_at unit (product m unit) (m.cols + 0) (omega (arith, length-unit m.cols j)))
-      (contains-map (take (m.cols + 0)) basis (element m unit) (units j less))))
+      (mapped (take (m.cols + 0)) basis (element m unit) (units j less))))
   first_covers (suc n) low =
       let row = get_or m.rows n [] in
       let shorter = first_rows n m in
@@ -256,7 +252,8 @@ module _ (m : Matrix) (basis : List Vector) (elements : (z : Vector) → Contain
   pub settled_covers : Covers m basis
   settled_covers =
       let n = length m.rows in
-      let all : first_rows n m ≡ m = ap (λ rows. record { cols = m.cols; rows = rows }) (take_all n m.rows (omega arith)) in
+      let all : first_rows n m ≡ m = ap (λ rows. record { cols = m.cols; rows = rows })
+      (take_all n m.rows (omega arith)) in
       covers_wider m (map (take (m.cols + n)) basis) basis
       (subst (λ a. Covers a (map (take (m.cols + n)) basis)) all (first_covers n (omega arith)))
       (λ v c.

@@ -34,10 +34,12 @@ pub turned : is_below_in 3 (three (pos 2) (pos 3) (pos 4)) (three (minus 1) (min
 turned = refl
 
 -- (0, 1, 1) and (1, 0, 1), the second with its signs turned, clash in the last entry: (1, -1, 0) is below what is left
-pub settled_by_the_difference : clash_settles 2 (three (pos 1) (minus 1) (pos 0) ∷ []) (three (pos 0) (pos 1) (pos 1)) (three (minus 1) (pos 0) (minus 1)) ≡ true
+pub settled_by_the_difference : clash_settles 2 (three (pos 1) (minus 1) (pos 0) ∷ []) (three (pos 0) (pos 1) (pos 1))
+    (three (minus 1) (pos 0) (minus 1)) ≡ true
 settled_by_the_difference = refl
 
-pub not_settled_without_it : clash_settles 2 (three (pos 0) (pos 1) (pos 1) ∷ []) (three (pos 0) (pos 1) (pos 1)) (three (minus 1) (pos 0) (minus 1)) ≡ false
+pub not_settled_without_it : clash_settles 2 (three (pos 0) (pos 1) (pos 1) ∷ []) (three (pos 0) (pos 1) (pos 1))
+    (three (minus 1) (pos 0) (minus 1)) ≡ false
 not_settled_without_it = refl
 
 -- ---- the criterion, at the row (1 1)
@@ -74,5 +76,6 @@ with_a_sum = refl
 pub with_a_wrong_image : is_complete_by_prefixes pair (up ∷ across ∷ right ∷ three (pos 1) (pos 1) (pos 1) ∷ []) ≡ false
 with_a_wrong_image = refl
 
-pub with_a_negative_lead : is_complete_by_prefixes pair (three (minus 1) (pos 1) (pos 0) ∷ up ∷ across ∷ right ∷ []) ≡ false
+pub with_a_negative_lead : is_complete_by_prefixes pair (three (minus 1) (pos 1) (pos 0) ∷ up ∷ across ∷ right ∷ []) ≡
+    false
 with_a_negative_lead = refl

@@ -1,4 +1,3 @@
-pub mod Tests
 pub mod Units
 pub mod Clashes
 pub mod Turned

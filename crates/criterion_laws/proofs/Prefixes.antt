@@ -1,21 +1,21 @@
 -- The criterion by prefixes decides whether a list is complete for the lattice of a matrix: each of the two says that
 -- the list covers the lattice.
-use Rattle.std.proofs.Common.{◌≡◌, ℕ, zero, suc, ◌+◌, ◌<◌, Bool, true, false, ◌&&◌, nat_eq, List, length, take, drop, refl, arith, sym, Contains, inl, inr}
+use Rattle.std.proofs.Common.{◌≡◌, ℕ, zero, suc, ◌+◌, ◌<◌, Bool, true, false, ◌&&◌, nat_eq, List, length, take, drop}
+use Rattle.std.proofs.Common.{refl, arith, sym, Contains, inl, inr}
 use Rattle.std.specs.List.{list_all}
+use Rattle.std.proofs.lemmas.Bool.{and_from}
 use Rattle.lattice_theory.specs.Lists.{numbers_from}
 use Rattle.lattice_theory.specs.Vectors.{Vector, is_listed, is_rising, leads_positive, same, add, sub}
 use Rattle.lattice_theory.specs.Matrices.{Matrix, product, element, unit_vector}
 use Rattle.lattice_theory.specs.Lattices.{is_complete_for, is_signed_element, reduces_to_zero}
 use Rattle.lattice_laws.proofs.Tests.{and_true}
-use Rattle.lattice_laws.proofs.Members.{contains_cases, list_all_at}
+use Rattle.lattice_laws.proofs.Members.{contains_cases, list_all_at, listed_member, member_listed, list_all_of}
 use Rattle.cover_laws.specs.Elements.{IsNonzeroElement}
-use Rattle.cover_laws.proofs.CompleteLists.{complete_covers}
+use Rattle.cover_laws.proofs.CompleteLists.{complete_covers, signed_element, numbered}
 use Rattle.criterion_laws.specs.Prefixes.{clashes_settle, is_complete_by_prefixes}
-use Rattle.criterion_laws.proofs.Tests.{and_of, list_all_of, listed_member, member_listed}
 use Rattle.cover_laws.proofs.Coverings.{IsCovering, covering_complete}
 use Rattle.criterion_laws.proofs.Settled.{unit_member, covering_settles}
 use Rattle.criterion_laws.proofs.Cuts.{settled_covers}
-use Rattle.cover_laws.proofs.CompleteLists.{signed_element, numbered}
 
 -- ---- what the tests of single members say
 
@@ -23,7 +23,8 @@ signed_leads : (m : Matrix) (z : Vector) → is_signed_element m z ≡ true → 
 signed_leads m z signed =
     let width = m.cols + length m.rows in
     (and_true (leads_positive z) (nat_eq (length z) width)
-    (and_true (leads_positive z && nat_eq (length z) width) (same (drop m.cols z) (product m (take m.cols z))) signed).0).0
+    (and_true (leads_positive z && nat_eq (length z) width) (same (drop m.cols z) (product m (take m.cols z)))
+    signed).0).0
 
 -- the numbers from 0 on are those below their count
 number_below : (a n j : ℕ) → Contains (numbers_from a n) j → j < a + n
@@ -58,8 +59,8 @@ module _ (m : Matrix) (basis : List Vector) where
   covering_prefixes : IsCovering m basis → signed ≡ true → rising ≡ true → is_complete_by_prefixes m basis ≡ true
   covering_prefixes is each in_order =
       let units = list_all is_unit_listed (numbers_from 0 m.cols) in
-      and_of (signed && rising && units) (clashes_settle m.cols basis basis)
-      (and_of (signed && rising) units (and_of signed rising each in_order)
+      and_from (signed && rising && units) (clashes_settle m.cols basis basis)
+      (and_from (signed && rising) units (and_from signed rising each in_order)
       (list_all_of is_unit_listed (numbers_from 0 m.cols) (λ j c.
       member_listed basis (element m (unit_vector m.cols j))
       (unit_member m basis is (λ z d. signed_leads m z (list_all_at (is_signed_element m) basis z each d)) j
@@ -69,7 +70,8 @@ module _ (m : Matrix) (basis : List Vector) where
   complete_prefixes : is_complete_for m basis ≡ true → is_complete_by_prefixes m basis ≡ true
   complete_prefixes complete =
       let units = list_all unit_reduces (numbers_from 0 m.cols) in
-      let first = and_true (signed && rising && units) (list_all (λ a. list_all (pair_reduces a) basis) basis) complete in
+      let first = and_true (signed && rising && units) (list_all (λ a. list_all (pair_reduces a) basis) basis)
+      complete in
       let second = and_true signed rising (and_true (signed && rising) units first.0).0 in
       covering_prefixes (record { elements = elements_of second.0; covers = complete_covers m basis complete })
       second.0 second.1

@@ -1,20 +1,23 @@
 -- A list that covers its lattice lists the element of each unit vector, and settles its clashes.
-use Rattle.std.proofs.Common.{◌≡◌, ℕ, suc, ◌<◌, ◌≤◌, true, false, ◌||◌, nat_lt, List, [], ◌∷◌, take, Option, Some, None, refl, ap, arith, sym, ◌∙◌, Contains, inl, inr, subst}
+use Rattle.std.proofs.Common.{◌≡◌, ℕ, suc, ◌<◌, ◌≤◌, true, false, ◌||◌, nat_lt, List, [], ◌∷◌, take, Option, Some, None}
+use Rattle.std.proofs.Common.{refl, ap, arith, sym, ◌∙◌, Contains, inl, inr, subst}
 use Rattle.std.specs.List.{list_all, list_any}
-use Rattle.std.proofs.lemmas.Bool.{cases_lt}
+use Rattle.std.proofs.lemmas.Bool.{cases_lt, and_from, or_left, or_right}
 use Rattle.std.proofs.lemmas.List.{take_at}
 use Rattle.lattice_theory.specs.Vectors.{Vector, ◌⊑◌, conforms, is_zero, leads_positive, add, opposite}
 use Rattle.lattice_theory.specs.Matrices.{Matrix, element, product, unit_vector}
-use Rattle.lattice_laws.proofs.Members.{contains_head, contains_tail}
-use Rattle.lattice_laws.proofs.Conformal.{below_same, conforms-take, leads-append, leads_nonzero, leads_not_both, nonzero_by_take, nonzero_of_norm, norm_agree, norm_some, opposite-opposite, take-add}
+use Rattle.lattice_laws.proofs.Members.{contains_head, contains_tail, list_any_of, list_all_of}
+use Rattle.lattice_laws.proofs.Conformal.{below_same, conforms-take, leads-append, leads_nonzero, leads_not_both}
+use Rattle.lattice_laws.proofs.Conformal.{nonzero_by_take, nonzero_of_norm, norm_agree, norm_some, opposite-opposite}
+use Rattle.lattice_laws.proofs.Conformal.{take-add}
 use Rattle.lattice_laws.proofs.Elements.{element_in, known_by_first, closed_add, first_nonzero}
 use Rattle.lattice_laws.proofs.SlackBases.{IsSigned}
-use Rattle.lattice_laws.proofs.UnitVectors.{length-unit}
+use Rattle.lattice_laws.proofs.UnitVectors.{length-unit, unit_leads}
+use Rattle.lattice_laws.proofs.Tests.{nat_lt_of}
 use Rattle.criterion_laws.specs.Prefixes.{first_clash, is_below_in, clash_settles, pair_settles, clashes_settle}
-use Rattle.criterion_laws.proofs.Tests.{and_of, nat_lt_of, or_left, or_right, list_all_of, list_any_of}
 use Rattle.criterion_laws.proofs.Clashes.{clash_agrees, agree-take}
 use Rattle.cover_laws.proofs.Coverings.{IsCovering, signed_in, signed_some}
-use Rattle.criterion_laws.proofs.Units.{unit_leads, unit_norm}
+use Rattle.criterion_laws.proofs.Units.{unit_norm}
 
 module _ (m : Matrix) (basis : List Vector) (is : IsCovering m basis) where
   -- ---- unit vectors
@@ -84,7 +87,8 @@ module _ (m : Matrix) (basis : List Vector) (is : IsCovering m basis) where
           ] ≡ true
       by None first = refl
       by (Some at) first = elim (cases_lt at m.cols) [
-        | inl low ↦ or_left (nat_lt at m.cols) (list_any (is_below_in (suc at) (add f g)) basis) (nat_lt_of at m.cols low)
+        | inl low ↦ or_left (nat_lt at m.cols) (list_any (is_below_in (suc at) (add f g)) basis)
+            (nat_lt_of at m.cols low)
         | inr behind ↦
             let inside =
             closed_add m f g (signed_in m basis is.elements f signed_f) (signed_in m basis is.elements g signed_g) in
@@ -98,10 +102,10 @@ module _ (m : Matrix) (basis : List Vector) (is : IsCovering m basis) where
   clashes_within [] inside = refl
   clashes_within (f ∷ fs) inside =
       let here = inside f (contains_head f fs) in
-      and_of (list_all (pair_settles m.cols basis f) fs) (clashes_settle m.cols basis fs)
+      and_from (list_all (pair_settles m.cols basis f) fs) (clashes_settle m.cols basis fs)
       (list_all_of (pair_settles m.cols basis f) fs (λ g c.
       let there = inside g (contains_tail f fs g c) in
-      and_of (clash_settles m.cols basis f g) (clash_settles m.cols basis f (opposite g))
+      and_from (clash_settles m.cols basis f g) (clash_settles m.cols basis f (opposite g))
       (signed_settles f g (inl here) (inl there))
       (signed_settles f (opposite g) (inl here)
       (inr (subst (Contains basis) (sym (opposite-opposite g)) there)))))

@@ -1,5 +1,6 @@
 -- Signs turned on the one vector or on the other: they clash at the same place, and the sums are opposites.
-use Rattle.std.proofs.Common.{◌≡◌, ℕ, suc, ℤ, neg_ℤ, nat_lt, Bool, true, false, ◌||◌, cond, List, [], ◌∷◌, take, Option, Some, None, refl, ap, arith, sym, ◌∙◌}
+use Rattle.std.proofs.Common.{◌≡◌, ℕ, suc, ℤ, neg_ℤ, nat_lt, Bool, true, false, ◌||◌, cond, List, [], ◌∷◌, take, Option}
+use Rattle.std.proofs.Common.{Some, None, refl, ap, arith, sym, ◌∙◌}
 use Rattle.std.specs.List.{list_any}
 use Rattle.std.specs.Option.{option_map}
 use Rattle.std.proofs.lemmas.Int.{ints}
@@ -26,7 +27,8 @@ sum_turned u v = ap (λ w. add w (opposite v)) (sym (opposite-opposite u)) ∙ s
 -- a member is below the opposite of z where it is below z, with one sign or the other
 below_turned : (n : ℕ) (z e : Vector) → is_below_in n (opposite z) e ≡ is_below_in n z e
 below_turned n z e =
-    (λ i. as_it_is i || turned i) ∙ exchanged (conforms (take n (opposite e)) (take n z)) (conforms (take n e) (take n z))
+    (λ i. as_it_is i || turned i) ∙ exchanged (conforms (take n (opposite e)) (take n z))
+    (conforms (take n e) (take n z))
   where
     as_it_is : conforms (take n e) (take n (opposite z)) ≡ conforms (take n (opposite e)) (take n z)
     as_it_is =

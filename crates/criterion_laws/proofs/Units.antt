@@ -1,7 +1,7 @@
 -- Unit vectors: their norms and their signs, and the list of them.
-use Rattle.std.proofs.Common.{◌≡◌, ℕ, zero, suc, ◌<◌, ◌≤◌, pos, true, refl, arith, Contains, inl, inr, subst}
+use Rattle.std.proofs.Common.{ℕ, zero, suc, ◌<◌, ◌≤◌, pos, arith, Contains, inl, inr, subst}
 use Rattle.std.proofs.lemmas.List.Elements.{Contains-push_cases}
-use Rattle.lattice_theory.specs.Vectors.{Vector, leads_positive, norm1, zeros}
+use Rattle.lattice_theory.specs.Vectors.{Vector, norm1, zeros}
 use Rattle.lattice_theory.specs.Matrices.{unit_vector}
 use Rattle.lattice_laws.proofs.Conformal.{norm1-cons, norm_of_zero}
 use Rattle.lattice_laws.proofs.Products.{zero-zeros}
@@ -12,12 +12,6 @@ pub unit_norm : (t j : ℕ) → norm1 (unit_vector t j) ≤ 1
 unit_norm zero j = omega arith
 unit_norm (suc t) zero = omega (arith, norm1-cons (pos 1) (zeros t), norm_of_zero (zeros t) (zero-zeros t))
 unit_norm (suc t) (suc j) = omega (arith, norm1-cons (pos 0) (unit_vector t j), unit_norm t j)
-
--- and leads positive
-pub unit_leads : (t j : ℕ) → j < t → leads_positive (unit_vector t j) ≡ true
-unit_leads zero j low = absurd (omega arith)
-unit_leads (suc t) zero low = refl
-unit_leads (suc t) (suc j) low = unit_leads t j (omega arith)
 
 -- what each of the first unit vectors has, each of their list has
 pub units_have : (P : Vector → Type 0) (t n : ℕ) → ((j : ℕ) → j < n → P (unit_vector t j)) →

@@ -17,7 +17,8 @@ first_clash (a ∷ u) (b ∷ v) = cond (agrees a b) (option_map suc (first_clash
 
 -- the first entries of a member, as it is or with its signs turned, are conformally below those of z
 abbrev pub is_below_in : ℕ → Vector → Vector → Bool
-is_below_in entries z e = conforms (take entries e) (take entries z) || conforms (take entries (opposite e)) (take entries z)
+is_below_in entries z e = conforms (take entries e) (take entries z) || conforms (take entries (opposite e))
+    (take entries z)
 
 -- two vectors that clash first behind the first parts: some member is below their sum up to that place
 abbrev pub clash_settles : ℕ → List Vector → Vector → Vector → Bool

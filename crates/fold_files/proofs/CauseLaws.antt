@@ -1,13 +1,15 @@
 -- What the cause of a fault of one call is to its caller.
-use Rattle.std.proofs.Common.{◌≡◌, ℕ, List, ◌++◌, length, Option, Result, Ok, Err, IfErr, IsErrAnd}
-use Rattle.std.proofs.Common.{refl, ap, sym, subst, ◌∙◌, inr}
+use Rattle.std.proofs.Common.{◌≡◌, ℕ, List, ◌++◌, length, Option, Result, Ok, Err, IfErr, IsErrAnd, refl, ap, sym}
+use Rattle.std.proofs.Common.{subst, ◌∙◌, inr}
 use Rattle.std.proofs.lemmas.Bool.{lt-ltb}
 use Rattle.lattice_theory.specs.Matrices.{Matrix}
 use Rattle.fold_shelf.specs.declared.LoadFault.{LoadFault}
 use Rattle.fold_shelf.specs.declared.LoadFault.TheVariants as loading
-use Rattle.fold_shelf.specs.Outside.{File, Folder, file_named, without, ForTold, ReadFailed, OnlyReads, IsMissing, IsLoadCause}
+use Rattle.fold_shelf.specs.Outside.{File, Folder, file_named, without, ForTold, ReadFailed, OnlyReads, IsMissing}
+use Rattle.fold_shelf.specs.Outside.{IsLoadCause}
 use Rattle.fold_shelf.proofs.Counts.{rose_since, missing_as}
-use Rattle.fold_files.proofs.ToldLaws.{ForTold-all, ForTold-weaker, ForTold-both}
+use Rattle.fold_shelf.proofs.Reading.{ForTold-both}
+use Rattle.fold_files.proofs.ToldLaws.{ForTold-all, ForTold-weaker}
 use Rattle.mat_files.specs.declared.MatFault.{MatFault}
 use Rattle.mat_files.specs.declared.MatFault.TheVariants as mat
 use Rattle.mat_files.specs.Tokens.{and_then}

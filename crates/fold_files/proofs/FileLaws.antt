@@ -1,6 +1,6 @@
 -- The files of a folder by their names, and the folder without one of them.
-use Rattle.std.proofs.Common.{◌≡◌, ℕ, ◌^◌, Bool, false, true, List, [], ◌∷◌, ◌++◌, Option, Some, None, Result, Err, cond}
-use Rattle.std.proofs.Common.{refl, ap, ◌∙◌, inl, inr, eq-eqb}
+use Rattle.std.proofs.Common.{◌≡◌, ℕ, ◌^◌, Bool, false, true, List, [], ◌∷◌, ◌++◌, Option, Some, None, Result, Err}
+use Rattle.std.proofs.Common.{cond, refl, ap, ◌∙◌, inl, inr, eq-eqb}
 use Rattle.std.specs.Str.{bytes_eq}
 use Rattle.std.proofs.lemmas.Bool.{cases_Bool}
 use Rattle.std.proofs.lemmas.Slice.Eq.{bytes_eq-Decides}

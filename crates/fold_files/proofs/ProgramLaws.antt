@@ -1,6 +1,6 @@
 -- A program is read file by file: where one is refused, so is the program.
-use Rattle.std.proofs.Common.{◌≡◌, ℕ, ◌+◌, ◌-◌, ◌*◌, ◌^◌, ◌<◌, ◌≤◌, unsigned_abs, Bool, true, List, length, Option, Some}
-use Rattle.std.proofs.Common.{None, Result, Ok, Err, All, IsTrue, refl, eq-eqb, arith}
+use Rattle.std.proofs.Common.{◌≡◌, ℕ, ◌+◌, ◌-◌, ◌*◌, ◌^◌, ◌<◌, ◌≤◌, unsigned_abs, Bool, true, List, length, Option}
+use Rattle.std.proofs.Common.{Some, None, Result, Ok, Err, All, IsTrue, refl, eq-eqb, arith}
 use Rattle.std.proofs.lemmas.Bool.{le-leb}
 use Rattle.std.proofs.lemmas.List.Elements.{All-weaker}
 use Rattle.lattice_theory.specs.Vectors.{Vector, is_bounded, IsBoundedRow}
@@ -194,7 +194,8 @@ module _ (before now : Folder) (prefix : List ℕ) (asked : Bool) (f : ReadFault
                     → Differ kind file.Lower → Differ kind file.Upper → Differ kind file.Right
                     → Differ kind file.Relations → IsOfFile kind f
                     → Of (with_relations prefix asked link brick lower upper right relations) → OfProgram
-                past_relations kind link_differs brick_differs lower_differs upper_differs right_differs differ same cause
+                past_relations kind link_differs brick_differs lower_differs upper_differs right_differs differ same
+                    cause
                     =
                     past_right kind link_differs brick_differs lower_differs upper_differs right_differs same
                     (cause_rest (relations_for prefix asked link)

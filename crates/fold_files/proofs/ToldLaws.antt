@@ -12,9 +12,3 @@ module _ {A : Type 0} where
   pub ForTold-weaker : (told : Option A) (P Q : A → Type 0) → ((a : A) → P a → Q a) → ForTold told P → ForTold told Q
   ForTold-weaker None P Q follows p = tt
   ForTold-weaker (Some a) P Q follows p = follows a p
-
-  -- what follows from two facts holds of what is told
-  pub ForTold-both : (told : Option A) (P Q R : A → Type 0) → ((a : A) → P a → Q a → R a) → ForTold told P →
-      ForTold told Q → ForTold told R
-  ForTold-both None P Q R follows p q = tt
-  ForTold-both (Some a) P Q R follows p q = follows a p q

@@ -1,6 +1,6 @@
 -- What a folder's files give: a program, a point of it, or a matrix by itself; or the first fault of reading.
-use Rattle.std.specs.Prelude.{ℕ, ◌+◌, ◌-◌, ◌*◌, ◌^◌, ◌++◌, nat_lt, Bool, true, false, List, length, replicate, cond, Some}
-use Rattle.std.specs.Prelude.{None, Result, Ok, Err}
+use Rattle.std.specs.Prelude.{ℕ, ◌+◌, ◌-◌, ◌*◌, ◌^◌, ◌++◌, nat_lt, Bool, true, false, List, length, replicate, cond}
+use Rattle.std.specs.Prelude.{Some, None, Result, Ok, Err}
 use Rattle.lattice_theory.specs.Matrices.{Matrix}
 use Rattle.fold_theory.specs.declared.Cost.{Cost}
 use Rattle.fold_theory.specs.declared.Relation.{Relation}

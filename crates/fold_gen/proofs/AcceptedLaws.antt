@@ -1,7 +1,6 @@
 -- The parts that are made from customers are accepted.
-use Rattle.std.proofs.Common.{◌≡◌, ℕ, zero, suc, ◌+◌, ◌*◌, ◌%◌, ◌^◌, ◌≤◌, ◌<◌, nat_lt, nat_le, nat_eq, not, Bool, true}
-use Rattle.std.proofs.Common.{max, ℤ, pos, int_lt, unsigned_abs, false, List, [], ◌∷◌, ◌++◌, length, map, sum_by, refl}
-use Rattle.std.proofs.Common.{ap, arith, sym, ◌∙◌, Option, Some, None, cond}
+use Rattle.std.proofs.Common.{◌≡◌, ℕ, zero, suc, ◌+◌, ◌*◌, ◌^◌, ◌≤◌, nat_lt, not, Bool, true, max, pos, int_lt, false}
+use Rattle.std.proofs.Common.{List, [], ◌∷◌, length, map, sum_by, refl, ap, arith, sym, ◌∙◌, Option, Some, None, cond}
 use Rattle.std.specs.List.{AllByRecursion}
 use Rattle.std.specs.Option.{option_or}
 use Rattle.std.proofs.lemmas.Int.{ints}
@@ -10,6 +9,7 @@ use Rattle.std.proofs.lemmas.List.Sums.{sum_by-cons}
 use Rattle.std.proofs.Math.Nat.{mul-le-mul_left, mul-le-mul_right}
 use Rattle.lattice_theory.specs.Matrices.{Matrix}
 use Rattle.fold_theory.specs.Costs.{magnitude}
+use Rattle.lattice_laws.proofs.Tests.{nat_eq_of, nat_le_of}
 use Rattle.convex_costs.specs.Faults.{cost_fault}
 use Rattle.convex_costs.specs.declared.fault.CostFault.TheVariants.{TooLarge}
 use Rattle.fold_program.specs.declared.parts.Parts.{Parts}
@@ -18,11 +18,11 @@ use Rattle.fold_program.specs.declared.fault.ProgramFault.{ProgramFault}
 use Rattle.fold_program.specs.declared.fault.ProgramFault.TheVariants as fault
 use Rattle.fold_program.specs.Parts.{program_of}
 use Rattle.fold_program.specs.Faults.{IsProgramFault}
-use Rattle.fold_program.specs.Refusals.{in_shape, first_misshaped, crossed_in, cost_faults_in, of_each, magnitudes}
-use Rattle.fold_program.specs.Refusals.{brick_magnitude, total_magnitude, program_refusal, head_of}
+use Rattle.fold_program.specs.Refusals.{in_shape, first_misshaped, crossed_in, cost_faults_in, of_each, brick_magnitude}
+use Rattle.fold_program.specs.Refusals.{total_magnitude, program_refusal}
 use Rattle.fold_gen.specs.declared.customers.Price.{Price}
 use Rattle.fold_gen.specs.declared.customers.Customer.{Customer}
-use Rattle.fold_gen.specs.Draws.{next, after, draw, price, demand, customer, customers}
+use Rattle.fold_gen.specs.Draws.{after, price, demand, customers}
 use Rattle.fold_gen.specs.Transports.{cost_of, brick_of, links, shares, transport_of}
 
 -- ---- small numbers
@@ -117,12 +117,6 @@ not_refused cs small few =
     rw (none_crossed 1 cs, none_refused 1 cs small, test) refl
 
 -- ---- shapes
-
-nat_le_of : (a b : ℕ) → a ≤ b → nat_le a b ≡ true
-nat_le_of a b h = grind (arith, nat_tests)
-
-nat_eq_of : (a b : ℕ) → a ≡ b → nat_eq a b ≡ true
-nat_eq_of a b h = grind (arith, nat_tests)
 
 fits : (a b c d : ℕ) (m : Matrix) → a ≤ length m.rows → length m.rows ≤ b → c ≤ m.cols → m.cols ≤ d →
     in_shape a b c d m ≡ true

@@ -1,7 +1,7 @@
 -- Parts that are accepted make a program.
 use Rattle.std.proofs.Common.{◌≡◌, ℕ, zero, suc, ◌+◌, ◌*◌, ◌≤◌, ℤ, ◌≤ℤ◌, nat_eq, Bool, true, false, not, List, [], ◌∷◌}
 use Rattle.std.proofs.Common.{◌++◌, length, map, take, drop, refl, ap, arith, sym, ◌∙◌, Option, Some, None, cond}
-use Rattle.std.proofs.Common.{length-append, length-take, sum_by, subst}
+use Rattle.std.proofs.Common.{length-take, sum_by, subst}
 use Rattle.std.specs.List.{AllZip, AllByRecursion}
 use Rattle.std.proofs.lemmas.Bool.Decides.{nat_tests}
 use Rattle.std.proofs.lemmas.List.{take-append-drop, length-drop, take-map, drop-map}
@@ -12,12 +12,12 @@ use Rattle.lattice_theory.specs.Matrices.{Matrix}
 use Rattle.fold_theory.specs.declared.Cost.{Cost}
 use Rattle.fold_theory.specs.Costs.{BoundedCost, value, IsConvexOn}
 use Rattle.fold_theory.specs.Programs.{IsBrick}
+use Rattle.lattice_laws.specs.VectorLists.{flat}
 use Rattle.fold_program.specs.declared.fault.FileKind.{FileKind}
 use Rattle.fold_program.specs.declared.parts.Parts.{Parts}
 use Rattle.fold_program.specs.Parts.{bricks_from}
 use Rattle.fold_program.specs.Refusals.{in_shape, first_misshaped, magnitudes, brick_magnitude}
 use Rattle.fold_program.specs.Bounds.{IsGood, cost_magnitude}
-use Rattle.fold_program.proofs.ScanLaws.{flat}
 
 -- ---- shapes
 
@@ -92,15 +92,6 @@ shaped_from_none p e =
       right_cols = omega (arith, rights.cols_from, rights.cols_to);
       costs = grind (arith, nat_tests);
     }
-
--- all entries of rows of one width
-pub length-flat : (t : ℕ) (rows : List Vector) → AllByRecursion (λ row. length row ≡ t) rows →
-    length (flat rows) ≡ length rows * t
-length-flat t [] even = omega arith
-length-flat t (row ∷ rows) even =
-    let here : length row ≡ t = even.0 in
-    let rest = length-flat t rows even.1 in
-    simp length-append (omega arith)
 
 -- ---- bricks
 

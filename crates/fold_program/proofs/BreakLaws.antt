@@ -9,6 +9,7 @@ use Rattle.lattice_theory.specs.Vectors.{Vector, sub, dot}
 use Rattle.fold_theory.specs.declared.Broken.{Broken}
 use Rattle.fold_theory.specs.Programs.{Brick, Bricks}
 use Rattle.fold_theory.specs.Breaks.{row_breaks, first_of, over_bricks}
+use Rattle.lattice_laws.proofs.Places.{drop-at}
 
 -- what is left of the rests from a place on
 abbrev pub rests_from : ℕ → Vector → List Vector → Vector → Vector
@@ -39,18 +40,12 @@ pub first_of_none : {A : Type 0} → (xs ys : List A) → first_of xs ≡ None �
 first_of_none [] ys e = refl
 first_of_none (x ∷ xs) ys e = absurd (cc)
 
--- the list from a place on, where an element is there
-pub drop-there : {A : Type 0} → (xs : List A) (k : ℕ) (x : A) → slice_get xs k ≡ Some x →
-    drop k xs ≡ x ∷ drop (k + 1) xs
-drop-there xs k x there =
-    rw (add-one, drop-cons xs k x (slice_get_within xs k x there), get_or_from_slice_get xs k x x there) refl
-
 -- what the bricks from a place on break: first what the brick there breaks
 pub over_bricks_step : (f : ℕ → Brick → Vector → List Broken) (i k : ℕ) (bs : List Brick) (x : Bricks) (b : Brick)
     (v : Vector) → slice_get bs k ≡ Some b → slice_get x k ≡ Some v →
     over_bricks f i (drop k bs) (drop k x) ≡ f i b v ++ over_bricks f (i + 1) (drop (k + 1) bs) (drop (k + 1) x)
 over_bricks_step f i k bs x b v brick vector =
-    rw (drop-there bs k b brick, drop-there x k v vector) (rw (add-one, add-one) refl)
+    rw (drop-at bs k b brick, drop-at x k v vector) (rw (add-one, add-one) refl)
 
 -- every brick was looked at
 pub over_bricks_end : (f : ℕ → Brick → Vector → List Broken) (i k : ℕ) (bs : List Brick) (x : Bricks) → length bs ≤ k →
@@ -72,7 +67,7 @@ pub from_row : (name : ℕ → Broken) (i : ℕ) (misses : List ℕ) (miss : ℕ
     (drop (i + 1 - 1) misses)
 from_row name i misses miss from there =
     let next : i + 1 - 1 ≡ i - 1 + 1 = omega arith in
-    rw next (rw (drop-there misses (i - 1) miss there) (rw add-one (rw add-one refl)))
+    rw next (rw (drop-at misses (i - 1) miss there) (rw add-one (rw add-one refl)))
 
 pub row_breaks_end : (name : ℕ → Broken) (i : ℕ) (misses : List ℕ) → length misses ≤ i →
     row_breaks name (i + 1) (drop (i + 1 - 1) misses) ≡ []

@@ -1,27 +1,27 @@
 -- The cost of a point, brick by brick and column by column; the widest bounds.
 use Rattle.std.proofs.Common.{◌≡◌, ℕ, zero, suc, ◌+◌, ◌-◌, ◌*◌, ◌^◌, ◌≤◌, ◌<◌, ℤ, pos, ◌+ℤ◌, ◌-ℤ◌, ◌≤ℤ◌, unsigned_abs}
 use Rattle.std.proofs.Common.{List, [], ◌∷◌, ◌++◌, length, map, take, drop, flat_map, refl, ap, arith, sym, ◌∙◌, Some}
-use Rattle.std.proofs.Common.{slice_get, get_or, max, sum_by, ◌⊎◌, inl, inr, IsTrue, true, FitsSigned}
+use Rattle.std.proofs.Common.{slice_get, get_or, max, sum_by, ◌⊎◌, inl, inr, IsTrue, FitsSigned}
 use Rattle.std.specs.List.{AllZip, AllByRecursion}
 use Rattle.std.specs.Int.{w128}
 use Rattle.std.proofs.lemmas.Int.{ints, fits_signed_from_abs}
-use Rattle.std.proofs.lemmas.Bool.Decides.{nat_tests}
 use Rattle.std.proofs.lemmas.List.{drop_all, take-map, drop-map}
 use Rattle.std.proofs.lemmas.List.Sums.{sum_by-cons}
-use Rattle.std.proofs.lemmas.Option.{slice_get_within, slice_get_read, slice_get-get_or, slice_get-map}
+use Rattle.std.proofs.lemmas.Option.{slice_get_within, slice_get_read, slice_get-map}
 use Rattle.std.specs.Option.{option_map}
 use Rattle.lattice_theory.specs.Lists.{greatest, zip_with, sum_zip}
 use Rattle.lattice_theory.specs.Vectors.{Vector, is_bounded}
 use Rattle.fold_theory.specs.declared.Cost.{Cost}
 use Rattle.fold_theory.specs.Costs.{BoundedCost, value}
-use Rattle.fold_theory.specs.Programs.{Program, Brick, Bricks, IsWithin, AreWithin, brick_cost}
+use Rattle.fold_theory.specs.Programs.{Program, Brick, Bricks, brick_cost}
+use Rattle.lattice_laws.specs.VectorLists.{flat}
+use Rattle.lattice_laws.proofs.Tests.{is_bounded_true}
+use Rattle.lattice_laws.proofs.Places.{drop-at}
 use Rattle.fold_program.specs.Parts.{bricks_from}
 use Rattle.fold_program.specs.Refusals.{brick_magnitude, total_magnitude}
 use Rattle.fold_program.specs.Places.{OfBrick, OfColumn}
 use Rattle.fold_program.specs.Bounds.{AreCostsOf, cost_magnitude}
-use Rattle.fold_program.proofs.ScanLaws.{flat}
 use Rattle.fold_program.proofs.AcceptLaws.{magnitudes_all, length-map}
-use Rattle.fold_program.proofs.BreakLaws.{drop-there}
 use Rattle.fold_program.proofs.ViewLaws.{same_some}
 use Rattle.fold_program.proofs.PlaceLaws.{brick_in_total}
 
@@ -85,7 +85,7 @@ pub cost_from_step : (i : ℕ) (bs : List Brick) (x : Bricks) (b : Brick) (v : V
     cost_from i bs x ≡ (brick_cost b v +ℤ cost_from (i + 1) bs x)
 cost_from_step i bs x b v from brick vector =
     let next : i + 1 - 1 ≡ i - 1 + 1 = omega arith in
-    rw next (rw (drop-there bs (i - 1) b brick, drop-there x (i - 1) v vector) refl)
+    rw next (rw (drop-at bs (i - 1) b brick, drop-at x (i - 1) v vector) refl)
 
 pub cost_from_end : (i : ℕ) (bs : List Brick) (x : Bricks) → length bs ≤ i → cost_from (i + 1) bs x ≡ pos 0
 cost_from_end i bs x all = ap (λ cs. sum_zip brick_cost cs (drop (i + 1 - 1) x)) (drop_all (i + 1 - 1) bs (omega arith))
@@ -98,25 +98,8 @@ pub magnitude_from_step : (i : ℕ) (bs : List Brick) (b : Brick) → 1 ≤ i �
     magnitude_from i bs ≡ brick_magnitude b + magnitude_from (i + 1) bs
 magnitude_from_step i bs b from brick =
     let next : i + 1 - 1 ≡ i - 1 + 1 = omega arith in
-    rw next (ap (λ cs. sum_by brick_magnitude cs) (drop-there bs (i - 1) b brick)
+    rw next (ap (λ cs. sum_by brick_magnitude cs) (drop-at bs (i - 1) b brick)
     ∙ sum_by-cons brick_magnitude b (drop (i - 1 + 1) bs))
-
--- a brick of a point within the bounds is within its own
-pub within_at : (bs : List Brick) (x : Bricks) (i : ℕ) (b : Brick) (v : Vector) → AreWithin bs x →
-    slice_get bs i ≡ Some b → slice_get x i ≡ Some v → IsWithin b v
-within_at [] x i b v h brick vector = absurd (cc)
-within_at (d ∷ bs) [] i b v h brick vector = absurd h
-within_at (d ∷ bs) (w ∷ x) zero b v h brick vector =
-    let same : d ≡ b = same_some d b brick in
-    let here : w ≡ v = same_some w v vector in
-    rw (sym same, sym here) h.0
-within_at (d ∷ bs) (w ∷ x) (suc i) b v h brick vector = within_at bs x i b v h.1 brick vector
-
-pub length-within : (bs : List Brick) (x : Bricks) → AreWithin bs x → length x ≡ length bs
-length-within [] [] h = refl
-length-within [] (v ∷ x) h = absurd h
-length-within (b ∷ bs) [] h = absurd h
-length-within (b ∷ bs) (v ∷ x) h = ap suc (length-within bs x h.1)
 
 -- ---- rows of one width
 
@@ -150,10 +133,7 @@ length-in_range (c ∷ cs) (a ∷ v) h = ap suc (length-in_range cs v h.1)
 -- an element that was read stands in front of what comes from its place on
 pub drop-read : {A : Type 0} → (xs : List A) (i : ℕ) (x : A) → i < length xs → x ≡ get_or xs i x →
     drop i xs ≡ x ∷ drop (i + 1) xs
-drop-read xs i x inside read = drop-there xs i x (slice_get_read xs (length xs) i x refl inside read)
-
-pub drop-entry : (v : Vector) (i : ℕ) → i < length v → drop i v ≡ get_or v i (pos 0) ∷ drop (i + 1) v
-drop-entry v i inside = drop-there v i (get_or v i (pos 0)) (slice_get-get_or v i (pos 0) inside)
+drop-read xs i x inside read = drop-at xs i x (slice_get_read xs (length xs) i x refl inside read)
 
 -- ---- the costs of a brick among all costs
 
@@ -180,10 +160,6 @@ costs_of_row t i cs lower upper b low high lowers uppers lower_is upper_is costs
 
 -- ---- the widest difference
 
-greatest-append : (xs ys : List ℕ) → greatest (xs ++ ys) ≡ max (greatest xs) (greatest ys)
-greatest-append [] ys = omega arith
-greatest-append (x ∷ xs) ys = omega (arith, greatest-append xs ys)
-
 zip_with-append : {A B C : Type 0} → (f : A → B → C) (xs us : List A) (ys vs : List B) → length xs ≡ length ys →
     zip_with f (xs ++ us) (ys ++ vs) ≡ zip_with f xs ys ++ zip_with f us vs
 zip_with-append f [] us [] vs same = refl
@@ -209,13 +185,10 @@ pub differences_small : (us vs : Vector) → AllByRecursion (λ a. IsTrue (is_bo
 differences_small [] vs low high = omega arith
 differences_small (u ∷ us) [] low high = omega arith
 differences_small (u ∷ us) (v ∷ vs) low high =
-    let a : unsigned_abs u ≤ 2 ^ 62 = bounded_is u low.0 in
-    let b : unsigned_abs v ≤ 2 ^ 62 = bounded_is v high.0 in
+    let a : unsigned_abs u ≤ 2 ^ 62 = is_bounded_true u low.0 in
+    let b : unsigned_abs v ≤ 2 ^ 62 = is_bounded_true v high.0 in
     let rest = differences_small us vs low.1 high.1 in
     omega (arith, ints, rest, a, b)
-  where
-    bounded_is : (x : ℤ) → is_bounded x ≡ true → unsigned_abs x ≤ 2 ^ 62
-    bounded_is x h = grind (arith, nat_tests)
 
 at_map : {A B : Type 0} → (f : A → B) (xs : List A) (i : ℕ) (x : A) → slice_get xs i ≡ Some x →
     slice_get (map f xs) i ≡ Some (f x)

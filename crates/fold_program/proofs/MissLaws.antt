@@ -8,8 +8,9 @@ use Rattle.lattice_theory.specs.Lists.{zip_with, total}
 use Rattle.lattice_theory.specs.Vectors.{Vector, dot}
 use Rattle.fold_theory.specs.declared.Relation.TheVariants.{Less, Greater}
 use Rattle.fold_theory.specs.Programs.{Program, Bricks, dist, link_rests, link_misses}
+use Rattle.lattice_laws.proofs.Places.{drop-at}
 use Rattle.fold_program.specs.Places.{OfRow}
-use Rattle.fold_program.proofs.BreakLaws.{drop-there, length-zip_with}
+use Rattle.fold_program.proofs.BreakLaws.{length-zip_with}
 use Rattle.fold_program.proofs.SumLaws.{zip_with-at}
 
 -- what a row that is to be at most its right side misses
@@ -54,7 +55,7 @@ pub misses_step : (misses : List ℕ) (i : ℕ) (miss : ℕ) → 1 ≤ i → sli
     sum (drop (i - 1) misses) ≡ miss + sum (drop (i + 1 - 1) misses)
 misses_step misses i miss from there =
     let next : i + 1 - 1 ≡ i - 1 + 1 = omega arith in
-    rw next (ap (λ xs. sum xs) (drop-there misses (i - 1) miss there)
+    rw next (ap (λ xs. sum xs) (drop-at misses (i - 1) miss there)
     ∙ sum_by-cons (λ m. m) miss (drop (i - 1 + 1) misses))
 
 pub misses_none : (misses : List ℕ) (i : ℕ) → length misses ≤ i - 1 → sum (drop (i - 1) misses) ≡ 0

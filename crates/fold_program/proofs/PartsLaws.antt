@@ -17,6 +17,8 @@ use Rattle.fold_theory.specs.declared.Relation.TheVariants.{Equal}
 use Rattle.fold_theory.specs.Costs.{BoundedCost}
 use Rattle.convex_costs.specs.declared.CostFault.{CostFault}
 use Rattle.fold_theory.specs.Programs.{Program, IsBrick, IsProgram}
+use Rattle.lattice_laws.proofs.VectorLists.{length-flat}
+use Rattle.lattice_laws.specs.VectorLists.{flat}
 use Rattle.fold_program.specs.Parts.{bricks_from, fold_of, program_of, related, AreEven}
 use Rattle.fold_program.specs.Refusals.{first_misshaped, head_of, of_each, crossed_in, cost_faults_in, program_refusal}
 use Rattle.fold_program.specs.Refusals.{total_magnitude, brick_magnitude}
@@ -27,9 +29,9 @@ use Rattle.fold_program.specs.Faults.{AreWithinLimits, IsProgramFault}
 use Rattle.fold_program.specs.Kept.{IsKept}
 use Rattle.fold_program.specs.Bounds.{IsGood, AreBoundCosts, IsFirstCrossed, IsFirstRefused, IsCostRefusal}
 use Rattle.fold_program.specs.Bounds.{cost_magnitude}
-use Rattle.fold_program.proofs.ScanLaws.{flat, scan, crossed_at, fault_at, crossed_rows, fault_rows, scan-uncrossed}
+use Rattle.fold_program.proofs.ScanLaws.{scan, crossed_at, fault_at, crossed_rows, fault_rows, scan-uncrossed}
 use Rattle.fold_program.proofs.ScanLaws.{scan-crossed, scan-good, scan-refused}
-use Rattle.fold_program.proofs.AcceptLaws.{AreShaped, shaped_from_none, length-flat, bricks_fit, bricks_weigh}
+use Rattle.fold_program.proofs.AcceptLaws.{AreShaped, shaped_from_none, bricks_fit, bricks_weigh}
 
 -- every row is within the limit, so every entry is
 pub bounded_flat : (rows : List Vector) → All IsBoundedRow rows → IsBoundedRow (flat rows)

@@ -1,34 +1,20 @@
 -- One brick of a program, by its number, and its columns, by their bounds.
-use Rattle.std.proofs.Common.{◌≡◌, ℕ, ◌-◌, ◌^◌, ◌<◌, ◌≤◌, ℤ, ◌≤ℤ◌, int_le, true, pos, unsigned_abs, List, [], ◌∷◌}
-use Rattle.std.proofs.Common.{length, sum_by, get_or, ◌∙◌, ap, arith, sym, subst, All, Option, Some, slice_get}
-use Rattle.std.specs.List.{AllZip}
-use Rattle.std.proofs.lemmas.Bool.{and_parts}
-use Rattle.std.proofs.lemmas.Int.{ints}
-use Rattle.lattice_theory.specs.Lists.{all_zip}
-use Rattle.lattice_theory.specs.Vectors.{Vector}
+use Rattle.std.proofs.Common.{◌≡◌, ℕ, ◌-◌, ◌^◌, ◌<◌, ◌≤◌, ℤ, pos, unsigned_abs, List, [], ◌∷◌, length, sum_by, get_or}
+use Rattle.std.proofs.Common.{◌∙◌, ap, arith, sym, subst, All, Some, slice_get}
 use Rattle.std.proofs.lemmas.List.Sums.{sum_by_more_le}
 use Rattle.std.proofs.lemmas.Option.{slice_get_within, slice_get-get_or, get_or_from_slice_get}
 use Rattle.fold_theory.specs.declared.Cost.{Cost}
 use Rattle.fold_theory.specs.declared.Cost.TheVariants.{Quadratic}
-use Rattle.fold_theory.specs.Programs.{Program, Brick, IsBrick, IsProgram, IsWithin, is_within}
+use Rattle.fold_theory.specs.Programs.{Program, Brick, IsBrick, IsProgram}
+use Rattle.lattice_laws.proofs.Places.{same_value}
+use Rattle.fold_laws.proofs.Points.{brick_at}
 use Rattle.fold_program.specs.Refusals.{brick_magnitude, total_magnitude}
 use Rattle.fold_program.specs.Places.{OfBrick, ForBrick, OfColumn}
 use Rattle.fold_program.proofs.ViewLaws.{same_some}
 
--- the bricks of a program fit it
-pub brick_fits : (p : Program) (i : ℕ) (b : Brick) → IsProgram p → slice_get p.bricks i ≡ Some b →
-    IsBrick p.link.cols (length p.brick.rows) b
-brick_fits p i b program there =
-    subst (IsBrick p.link.cols (length p.brick.rows)) (get_or_from_slice_get p.bricks i b b there)
-    (program.each_brick i b (slice_get_within p.bricks i b there))
-
--- at one place there is one brick
-pub same_brick : (o : Option Brick) (a b : Brick) → o ≡ Some a → o ≡ Some b → a ≡ b
-same_brick o a b p q = cc
-
 -- what holds of a brick of this number holds of the one that stands there
 pub for_brick : (p : Program) (i : ℕ) (P : Brick → Type 0) → OfBrick p i P → ForBrick p i P
-for_brick p i P found b there = subst P (same_brick _ found.0 b found.1 there) found.2
+for_brick p i P found b there = subst P (same_value _ found.0 b found.1 there) found.2
 
 -- there is a brick of each number, and it fits
 pub brick_there : (p : Program) (i : ℕ) → IsProgram p → 1 ≤ i → i ≤ length p.bricks →
@@ -52,28 +38,13 @@ pub small_in_total : (p : Program) (i : ℕ) (a : ℤ) → total_magnitude p ≤
     OfBrick p i (λ b. unsigned_abs a ≤ brick_magnitude b) → unsigned_abs a ≤ 2 ^ 120
 small_in_total p i a most found = omega (arith, most, found.2, brick_in_total p.bricks (i - 1) found.0 found.1)
 
--- the test and the fact that a vector is within the bounds
-pub within_is : (b : Brick) (v : Vector) → is_within b v ≡ true → IsWithin b v
-within_is b v inside =
-    let parts = and_parts (all_zip int_le b.lower v) (all_zip int_le v b.upper) inside in
-    (over b.lower v parts.0, over v b.upper parts.1)
-  where
-    at_most : (a b : ℤ) → int_le a b ≡ true → a ≤ℤ b
-    at_most a b h = grind (arith, ints)
-
-    over : (u w : Vector) → all_zip int_le u w ≡ true → AllZip ◌≤ℤ◌ u w
-    over [] [] h = tt
-    over [] (b ∷ w) h = absurd (cc)
-    over (a ∷ u) [] h = absurd (cc)
-    over (a ∷ u) (b ∷ w) h = let p = and_parts (int_le a b) (all_zip int_le u w) h in (at_most a b p.0, over u w p.1)
-
 -- a column with these bounds has a cost
 pub column_of_bounds : (p : Program) (i j : ℕ) (l u : ℤ) (P : ℤ → ℤ → Cost → Type 0) → IsProgram p →
     OfBrick p i (λ b. slice_get b.lower (j - 1) ≡ Some l) → OfBrick p i (λ b. slice_get b.upper (j - 1) ≡ Some u) →
     ((c : Cost) → P l u c) → OfColumn p i j P
 column_of_bounds p i j l u P program (b, there, low) (d, here, high) holds =
     let same : d ≡ b = same_some d b (sym here ∙ there) in
-    let fits = brick_fits p (i - 1) b program there in
+    let fits = brick_at p (i - 1) b program there in
     let within : j - 1 < length b.lower = slice_get_within b.lower (j - 1) l low in
     let none = Quadratic (pos 0) (pos 0) (pos 0) in
     let cost = get_or b.costs (j - 1) none in

@@ -9,10 +9,13 @@ use Rattle.std.proofs.lemmas.List.{length-drop, take-append-drop}
 use Rattle.std.proofs.lemmas.List.Elements.{All-nil, All-cons, All-take, All-drop, All-contains, recursion_from_All}
 use Rattle.lattice_theory.specs.Vectors.{Vector, is_bounded, IsBoundedRow}
 use Rattle.lattice_theory.specs.Matrices.{rows_of}
-use Rattle.fold_theory.specs.Programs.{Program, Brick, Bricks, AreWithin}
+use Rattle.fold_theory.specs.Programs.{Program, Brick, Bricks, AreWithin, IsProgram}
+use Rattle.lattice_laws.specs.VectorLists.{flat}
+use Rattle.lattice_laws.proofs.VectorLists.{length_rows_of}
+use Rattle.lattice_laws.proofs.Tests.{is_bounded_true}
+use Rattle.fold_laws.proofs.Points.{point-length, widths_within}
 use Rattle.fold_program.specs.Points.{IsPoint, IsNoPoint, HasPointShape}
 use Rattle.fold_program.specs.Places.{HasBoundedSides}
-use Rattle.fold_program.proofs.ScanLaws.{flat}
 use Rattle.fold_program.proofs.PartsLaws.{bounded_flat}
 
 -- rows of entries within the limit are within it
@@ -23,11 +26,6 @@ bounded_rows (suc n) cols entries h =
     All-cons IsBoundedRow (take cols entries) (rows_of n cols (drop cols entries))
     (All-take (λ a. IsTrue (is_bounded a)) cols entries h)
     (bounded_rows n cols (drop cols entries) (All-drop (λ a. IsTrue (is_bounded a)) cols entries h))
-
--- there are as many rows as were asked for
-pub length-rows_of : (n cols : ℕ) (entries : Vector) → length (rows_of n cols entries) ≡ n
-length-rows_of zero cols entries = refl
-length-rows_of (suc n) cols entries = ap suc (length-rows_of n cols (drop cols entries))
 
 -- and each has an entry for each column
 even_rows : (n cols : ℕ) (entries : Vector) → length entries ≡ n * cols →
@@ -42,7 +40,7 @@ even_rows (suc n) cols entries e =
 -- a point made from entries has the shape of its program
 pub point_shape : (p : Program) (entries : Vector) (x : Bricks) → IsPoint p entries x → HasPointShape p x
 point_shape p entries x made = subst (HasPointShape p) (sym made.value) (record {
-  bricks = length-rows_of (length p.bricks) p.link.cols entries;
+  bricks = length_rows_of (length p.bricks) p.link.cols entries;
   widths = even_rows (length p.bricks) p.link.cols entries made.size;
 })
 
@@ -50,13 +48,10 @@ point_shape p entries x made = subst (HasPointShape p) (sym made.value) (record 
 
 between_bounded : (l a u : ℤ) → is_bounded l ≡ true → is_bounded u ≡ true → l ≤ℤ a → a ≤ℤ u → is_bounded a ≡ true
 between_bounded l a u low high above below =
-    let from : unsigned_abs l ≤ 2 ^ 62 = small l low in
-    let to : unsigned_abs u ≤ 2 ^ 62 = small u high in
+    let from : unsigned_abs l ≤ 2 ^ 62 = is_bounded_true l low in
+    let to : unsigned_abs u ≤ 2 ^ 62 = is_bounded_true u high in
     large a (omega (arith, ints, from, to, above, below))
   where
-    small : (x : ℤ) → is_bounded x ≡ true → unsigned_abs x ≤ 2 ^ 62
-    small x h = grind (arith, nat_tests)
-
     large : (x : ℤ) → unsigned_abs x ≤ 2 ^ 62 → is_bounded x ≡ true
     large x h = grind (arith, nat_tests)
 
@@ -111,3 +106,10 @@ within_is_point p entries sides (inr (a, there, large)) size within =
   where
     differ : true ≡ false → ⊥
     differ e = cc
+
+-- a point within the bounds has the shape of its program
+pub shape_of : (p : Program) (x : Bricks) → IsProgram p → AreWithin p.bricks x → HasPointShape p x
+shape_of p x program within = record {
+  bricks = point-length p.bricks x within;
+  widths = widths_within p.link.cols (length p.brick.rows) p.bricks x program.each_brick within;
+}

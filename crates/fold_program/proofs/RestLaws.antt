@@ -1,7 +1,7 @@
 -- The rest of a row, while its product is taken away place by place; and the rests of all linking rows.
 use Rattle.std.proofs.Common.{◌≡◌, ℕ, suc, ◌+◌, ◌^◌, ◌≤◌, ℤ, pos, ◌+ℤ◌, ◌-ℤ◌, ◌*ℤ◌, unsigned_abs, List, [], ◌∷◌, ◌++◌}
-use Rattle.std.proofs.Common.{length}
-use Rattle.std.proofs.Common.{map, take, get_or, refl, ap, ◌∙◌, sym, subst, arith, ◌⊎◌, inl, inr, Some, slice_get, All}
+use Rattle.std.proofs.Common.{length, map, take, get_or, refl, ap, ◌∙◌, sym, subst, arith, ◌⊎◌, inl, inr, Some}
+use Rattle.std.proofs.Common.{slice_get, All}
 use Rattle.std.proofs.lemmas.Int.{ints}
 use Rattle.std.proofs.lemmas.List.{take_more}
 use Rattle.std.proofs.lemmas.List.Elements.{All-push}

@@ -1,8 +1,6 @@
 -- What is refused of all bricks is what is refused of the columns one after the other.
 use Rattle.std.proofs.Common.{◌≡◌, ℕ, zero, suc, ◌+◌, ◌*◌, ◌/◌, ◌%◌, ◌≤◌, ◌<◌, ℤ, ◌≤ℤ◌, ◌<ℤ◌, int_lt, true, false, List}
-use Rattle.std.proofs.Common.{[]}
-use Rattle.std.proofs.Common.{◌∷◌, ◌++◌}
-use Rattle.std.proofs.Common.{length, map, take, drop, flat_map, refl, ap, arith, sym, ◌∙◌, cond, append_assoc}
+use Rattle.std.proofs.Common.{[], ◌∷◌, ◌++◌, length, map, take, drop, refl, ap, arith, sym, ◌∙◌, cond, append_assoc}
 use Rattle.std.proofs.Common.{length-take, get_or, Some, None}
 use Rattle.std.specs.List.{AllZip, AllByRecursion, zip}
 use Rattle.std.proofs.lemmas.Int.{ints}
@@ -12,6 +10,7 @@ use Rattle.std.proofs.lemmas.List.Elements.{AllZip-push, All-tail, recursion_fro
 use Rattle.lattice_theory.specs.Vectors.{Vector}
 use Rattle.fold_theory.specs.declared.Cost.{Cost}
 use Rattle.fold_theory.specs.Costs.{BoundedCost}
+use Rattle.lattice_laws.specs.VectorLists.{flat}
 use Rattle.convex_costs.specs.declared.CostFault.{CostFault}
 use Rattle.convex_costs.specs.Faults.{cost_fault}
 use Rattle.fold_program.specs.Parts.{bricks_from}
@@ -56,10 +55,6 @@ module _ {A B : Type 0} where
   length-zip_same [] (y ∷ ys) same = absurd (omega arith)
   length-zip_same (x ∷ xs) [] same = absurd (omega arith)
   length-zip_same (x ∷ xs) (y ∷ ys) same = ap suc (length-zip_same xs ys (omega arith))
-
--- the entries of all rows
-abbrev pub flat : List Vector → Vector
-flat rows = flat_map (λ row. row) rows
 
 -- ---- bounds
 

@@ -5,7 +5,7 @@ use Rattle.std.proofs.lemmas.List.{drop_all}
 use Rattle.lattice_theory.specs.Lists.{zip_with, total}
 use Rattle.lattice_theory.specs.Vectors.{Vector, dot}
 use Rattle.fold_theory.specs.Programs.{Bricks}
-use Rattle.fold_program.proofs.BreakLaws.{drop-there}
+use Rattle.lattice_laws.proofs.Places.{drop-at}
 use Rattle.fold_program.proofs.ViewLaws.{same_some}
 
 -- what is left of the sum of a row's products, from brick i on
@@ -16,7 +16,7 @@ pub products_step : (i : ℕ) (w : Vector) (x : Bricks) (v : Vector) → 1 ≤ i
     products_from i w x ≡ (dot w v +ℤ products_from (i + 1) w x)
 products_step i w x v from there =
     let next : i + 1 - 1 ≡ i - 1 + 1 = omega arith in
-    rw next (ap (λ (y : Bricks). total (map (dot w) y)) (drop-there x (i - 1) v there))
+    rw next (ap (λ (y : Bricks). total (map (dot w) y)) (drop-at x (i - 1) v there))
 
 pub products_end : (i : ℕ) (w : Vector) (x : Bricks) → length x ≤ i → products_from (i + 1) w x ≡ pos 0
 products_end i w x all = ap (λ (y : Bricks). total (map (dot w) y)) (drop_all (i + 1 - 1) x (omega arith))

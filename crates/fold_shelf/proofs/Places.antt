@@ -1,8 +1,10 @@
 -- The file of a name among other files.
-use Rattle.std.proofs.Common.{◌≡◌, ◌≢◌, ℕ, suc, Bool, true, false, cond, List, [], ◌∷◌, ◌++◌, take, drop, Option, Some, None, get_or, set, refl, sym, ap, ◌∙◌, bytes_eq}
+use Rattle.std.proofs.Common.{◌≡◌, ◌≢◌, ℕ, suc, Bool, true, false, cond, List, [], ◌∷◌, ◌++◌, take, drop, Option, Some}
+use Rattle.std.proofs.Common.{None, get_or, set, refl, sym, ap, ◌∙◌, bytes_eq}
 use Rattle.std.proofs.lemmas.List.{append-nil, take-append-drop, set_split}
 use Rattle.std.proofs.Math.Seq.{drop-cons}
 use Rattle.std.proofs.lemmas.Slice.Eq.{bytes_eq-Decides}
+use Rattle.std.proofs.lemmas.Bool.{false_from_ne_true}
 use Rattle.fold_shelf.specs.Outside.{File, file_named, Lacks, FileHolds, FileGains}
 use Rattle.fold_shelf.specs.MemFolder.{IsPlace}
 
@@ -11,15 +13,12 @@ pub file_named-here : (f : File) (files : List File) (name : List ℕ) → f.nam
     file_named (f ∷ files) name ≡ Some f.bytes
 file_named-here f files name same = rw ((bytes_eq-Decides f.name name).1 same) refl
 
-differs : (b : Bool) → (b ≡ true → ⊥) → b ≡ false
-differs true not = absurd (not refl)
-differs false not = refl
-
 -- a file of another name at the front does not
 pub file_named-other : (f : File) (files : List File) (name : List ℕ) → f.name ≢ name →
     file_named (f ∷ files) name ≡ file_named files name
 file_named-other f files name other =
-    let test : bytes_eq f.name name ≡ false = differs _ (λ yes. other ((bytes_eq-Decides f.name name).0 yes)) in
+    let test : bytes_eq f.name name ≡ false = false_from_ne_true _
+    (λ yes. other ((bytes_eq-Decides f.name name).0 yes)) in
     rw test refl
 
 passed_over : (b : Bool) (x : List ℕ) (found rest goal : Option (List ℕ)) → cond b (Some x) found ≡ None →

@@ -6,7 +6,7 @@ use Rattle.std.proofs.lemmas.List.{take_all, length-take-le}
 use Rattle.fold_shelf.specs.Outside.{File, file_named, ForTold, ReadFrom, IsWhole}
 
 -- what follows from two facts holds of what is told
-ForTold-both : {A : Type 0} (told : Option A) (P Q R : A → Type 0) → ((a : A) → P a → Q a → R a) →
+pub ForTold-both : {A : Type 0} (told : Option A) (P Q R : A → Type 0) → ((a : A) → P a → Q a → R a) →
     ForTold told P → ForTold told Q → ForTold told R
 ForTold-both None P Q R follows p q = tt
 ForTold-both (Some a) P Q R follows p q = follows a p q

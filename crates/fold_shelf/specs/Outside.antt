@@ -1,5 +1,6 @@
 -- What the calls of the outside do, and what a fault of theirs is caused by.
-use Rattle.std.specs.Prelude.{◌≡◌, ◌≢◌, ℕ, ◌+◌, ◌-◌, ◌^◌, ◌≤◌, ◌<◌, ◌⊎◌, ◌&&◌, min, Bool, true, List, [], ◌∷◌, ◌++◌, length, take, drop, Option, Some, None, is_none, cond, filter, not, bytes_eq}
+use Rattle.std.specs.Prelude.{◌≡◌, ◌≢◌, ℕ, ◌+◌, ◌-◌, ◌^◌, ◌≤◌, ◌<◌, ◌⊎◌, ◌&&◌, min, Bool, true, List, [], ◌∷◌, ◌++◌}
+use Rattle.std.specs.Prelude.{length, take, drop, Option, Some, None, is_none, cond, filter, not, bytes_eq}
 use Rattle.fold_shelf.specs.declared.shelf.ShelfFault.{ShelfFault}
 use Rattle.fold_shelf.specs.declared.shelf.ShelfFault.TheVariants as shelf
 use Rattle.fold_shelf.specs.declared.sink.SinkFault.{SinkFault}

@@ -1,6 +1,6 @@
 -- The definitions at values worked by hand: a program of two bricks with two columns each, one linking row and one
 -- brick row; three suppliers.
-use Rattle.std.specs.Prelude.{◌≡◌, ℕ, ℤ, pos, true, false, map, List, [], ◌∷◌, Some, None, refl}
+use Rattle.std.specs.Prelude.{◌≡◌, ℕ, ℤ, pos, true, false, map, [], ◌∷◌, Some, None, refl}
 use Rattle.fold_theory.specs.declared.Cost.{Cost}
 use Rattle.fold_theory.specs.declared.Cost.TheVariants.{Quadratic, Points}
 use Rattle.fold_theory.specs.declared.Relation.{Relation}
@@ -19,7 +19,12 @@ abbrev pub free : Cost
 free = Quadratic (pos 0) (pos 0) (pos 0)
 
 abbrev pub brick_with : ℕ → Brick
-brick_with b = record { lower = pos 0 ∷ pos 0 ∷ []; upper = pos 4 ∷ pos 4 ∷ []; right = pos b ∷ []; costs = square ∷ free ∷ [] }
+brick_with b = record {
+  lower = pos 0 ∷ pos 0 ∷ [];
+  upper = pos 4 ∷ pos 4 ∷ [];
+  right = pos b ∷ [];
+  costs = square ∷ free ∷ [];
+}
 
 abbrev pub related_program : Relation → ℕ → ℕ → Program
 related_program relation b0 b1 = record {
@@ -74,7 +79,8 @@ misses_of_at_least = refl
 pub at_most_met : first_break (related_program Less 3 4) (point_of (pos 0) (pos 4) (pos 2) (pos 2)) ≡ None
 at_most_met = refl
 
-pub at_least_broken : first_break (related_program Greater 3 4) (point_of (pos 0) (pos 4) (pos 2) (pos 2)) ≡ Some (LinkRow 1)
+pub at_least_broken : first_break (related_program Greater 3 4) (point_of (pos 0) (pos 4) (pos 2) (pos 2)) ≡ Some
+    (LinkRow 1)
 at_least_broken = refl
 
 -- an equation keeps its rest, the other rows may change
@@ -95,5 +101,7 @@ suppliers = record {
 }
 
 -- a cost by breakpoints
-pub on_a_line : map (value (Points (record { at = pos 0; value = pos 0 } ∷ record { at = pos 2; value = pos 2 } ∷ record { at = pos 4; value = pos 8 } ∷ []))) (pos 0 ∷ pos 1 ∷ pos 2 ∷ pos 3 ∷ pos 4 ∷ []) ≡ pos 0 ∷ pos 1 ∷ pos 2 ∷ pos 5 ∷ pos 8 ∷ []
+pub on_a_line : map (value (Points (record { at = pos 0; value = pos 0 } ∷ record { at = pos 2; value = pos 2 }
+    ∷ record { at = pos 4; value = pos 8 } ∷ []))) (pos 0 ∷ pos 1 ∷ pos 2 ∷ pos 3 ∷ pos 4 ∷ []) ≡ pos 0 ∷ pos 1 ∷ pos 2
+    ∷ pos 5 ∷ pos 8 ∷ []
 on_a_line = refl

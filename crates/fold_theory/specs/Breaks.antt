@@ -11,7 +11,8 @@ bound_breaks i j [] upper v = []
 bound_breaks i j (l ∷ lower) [] v = []
 bound_breaks i j (l ∷ lower) (u ∷ upper) [] = []
 bound_breaks i j (l ∷ lower) (u ∷ upper) (a ∷ v) =
-    cond (int_lt a l) (Below i j ∷ []) [] ++ cond (int_lt u a) (Above i j ∷ []) [] ++ bound_breaks i (suc j) lower upper v
+    cond (int_lt a l) (Below i j ∷ []) [] ++ cond (int_lt u a) (Above i j ∷ []) []
+    ++ bound_breaks i (suc j) lower upper v
 
 -- the rows, from number j on, that are this far from being met and not 0
 abbrev pub row_breaks : (ℕ → Broken) → ℕ → List ℕ → List Broken

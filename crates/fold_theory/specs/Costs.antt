@@ -1,5 +1,6 @@
 -- Convex costs of one coordinate.
-use Rattle.std.specs.Prelude.{ℕ, ◌+◌, ◌*◌, max, ℤ, pos, ◌+ℤ◌, ◌-ℤ◌, ◌*ℤ◌, ◌≤ℤ◌, unsigned_abs, int_le, int_div, true, false, List, [], ◌∷◌, map}
+use Rattle.std.specs.Prelude.{ℕ, ◌+◌, ◌*◌, max, ℤ, pos, ◌+ℤ◌, ◌-ℤ◌, ◌*ℤ◌, ◌≤ℤ◌, unsigned_abs, int_le, int_div, true}
+use Rattle.std.specs.Prelude.{false, List, [], ◌∷◌, map}
 use Rattle.lattice_theory.specs.Lists.{greatest}
 use Rattle.fold_theory.specs.declared.Cost.{Cost}
 use Rattle.fold_theory.specs.declared.Cost.TheVariants.{Quadratic, Points}

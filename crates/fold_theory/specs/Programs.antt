@@ -1,5 +1,6 @@
 -- The n-fold program, its points, what a point breaks and what it costs.
-use Rattle.std.specs.Prelude.{◌≡◌, ℕ, suc, ◌^◌, ◌≤◌, max, ℤ, pos, negsuc, ◌-ℤ◌, ◌≤ℤ◌, int_le, unsigned_abs, Bool, true, ◌&&◌, List, map, length, sum, flat_map, All}
+use Rattle.std.specs.Prelude.{◌≡◌, ℕ, suc, ◌^◌, ◌≤◌, max, ℤ, pos, negsuc, ◌-ℤ◌, ◌≤ℤ◌, int_le, unsigned_abs, Bool, true}
+use Rattle.std.specs.Prelude.{◌&&◌, List, map, length, sum, flat_map, All}
 use Rattle.std.specs.List.{AllZip}
 use Rattle.std.specs.Ordering.{int_eq}
 use Rattle.fold_theory.specs.declared.Cost.{Cost}
@@ -38,7 +39,8 @@ pub record IsBrick (t s : ℕ) (b : Brick) : Type 0 where
   pub right_size : length b.right ≡ s
   pub uncrossed : AllZip ◌≤ℤ◌ b.lower b.upper
   pub costs_size : length b.costs ≡ t
-  pub convex : AllZip {A = Cost} {B = ℤ × ℤ} (λ c bounds. IsConvexOn (value c) bounds.0 bounds.1) b.costs (zip_with (λ l u. (l, u)) b.lower b.upper)
+  pub convex : AllZip {A = Cost} {B = ℤ × ℤ} (λ c bounds. IsConvexOn (value c) bounds.0 bounds.1) b.costs
+      (zip_with (λ l u. (l, u)) b.lower b.upper)
 
 pub record IsProgram (p : Program) : Type 0 where
   pub link_shape : HasShape (length p.link.rows) p.link.cols p.link

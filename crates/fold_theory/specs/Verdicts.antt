@@ -3,7 +3,8 @@ use Rattle.std.specs.Prelude.{◌≡◌, ℕ, ◌+◌, ◌<◌, ◌≤◌, ℤ, 
 use Rattle.fold_theory.specs.declared.Verdict.{Verdict}
 use Rattle.fold_theory.specs.declared.Verdict.TheVariants.{Optimal, InfeasibleBrick, InfeasibleLink}
 use Rattle.lattice_theory.specs.Vectors.{Vector}
-use Rattle.fold_theory.specs.Programs.{Program, Brick, Bricks, IsFeasible, IsWithin, AreWithin, MeetsBrickRows, brick_residual, link_miss, link_rests, cost}
+use Rattle.fold_theory.specs.Programs.{Program, Brick, Bricks, IsFeasible, IsWithin, AreWithin, MeetsBrickRows}
+use Rattle.fold_theory.specs.Programs.{brick_residual, link_miss, link_rests, cost}
 
 -- a feasible point has this cost, and no feasible point has a lower one
 pub record IsOptimum (p : Program) (c : ℤ) : Type 0 where

@@ -1,5 +1,6 @@
 -- The gains of all lengths of a program.
-use Rattle.std.proofs.Common.{◌≡◌, ℕ, zero, suc, ◌+◌, ◌<◌, ◌≤◌, ◌^◌, ◌↔◌, max, Bool, true, false, cond, leb, List, [], ◌∷◌, length, Option, Some, slice_get, refl, ap, sym, subst, arith, ⊎_elim, le_of_eq}
+use Rattle.std.proofs.Common.{◌≡◌, ℕ, zero, suc, ◌+◌, ◌<◌, ◌≤◌, ◌^◌, ◌↔◌, max, Bool, true, false, cond, leb, List, []}
+use Rattle.std.proofs.Common.{◌∷◌, length, Option, Some, slice_get, refl, ap, sym, subst, arith, ⊎_elim, le_of_eq}
 use Rattle.std.proofs.Math.Pow.{pow-lt}
 use Rattle.std.proofs.lemmas.Bool.Decides.{leb_tells, nat_tests}
 use Rattle.std.proofs.lemmas.Option.{same_Some}
@@ -85,7 +86,8 @@ module _ (f : FoldValue) (x : Bricks) where
       let here : length_gain f.program f.phase (vectors f.sums) x k ≡ g = same_Some _ g at in
       let e : k ≡ k + 0 = omega arith in
       subst (λ j. IsGain f.program f.phase (vectors f.sums) x j g) e
-      (subst (IsGain f.program f.phase (vectors f.sums) x k) here (length_gain_is f.program f.phase (vectors f.sums) x k))
+      (subst (IsGain f.program f.phase (vectors f.sums) x k) here (length_gain_is f.program f.phase (vectors f.sums) x
+      k))
   gains_at (suc n) k (suc i) g at =
       let e : suc k + i ≡ k + suc i = omega arith in
       subst (λ j. IsGain f.program f.phase (vectors f.sums) x j g) e (gains_at n (suc k) i g at)
@@ -103,5 +105,6 @@ module _ (f : FoldValue) (x : Bricks) where
   }
 
 -- each fold has its gains at each point
-pub gains_exist : (f : FoldValue) (x : Bricks) → (gains : List (Option ℕ)) × AreGains f.program f.phase (vectors f.sums) x gains
+pub gains_exist : (f : FoldValue) (x : Bricks) → (gains : List (Option ℕ))
+    × AreGains f.program f.phase (vectors f.sums) x gains
 gains_exist f x = (all_gains f x, all_gains_are f x)

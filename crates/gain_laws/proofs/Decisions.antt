@@ -1,13 +1,17 @@
 -- Whether a move augments can be told: each part of the definition holds or not.
-use Rattle.std.proofs.Common.{◌≡◌, ℕ, zero, suc, ◌<◌, ◌≤◌, ◌^◌, ◌⊎◌, max, Bool, true, false, ℤ, pos, negsuc, ◌<ℤ◌, ◌≤ℤ◌, List, [], ◌∷◌, length, refl, ap, ap₂, subst, arith, inl, inr, ⊎_elim, true≢false}
+use Rattle.std.proofs.Common.{◌≡◌, ℕ, zero, suc, ◌<◌, ◌≤◌, ◌^◌, ◌⊎◌, max, Bool, true, false, ℤ, pos, negsuc, ◌<ℤ◌, ◌≤ℤ◌}
+use Rattle.std.proofs.Common.{List, [], ◌∷◌, length, refl, ap, ap₂, subst, arith, inl, inr, ⊎_elim, true≢false}
 use Rattle.std.proofs.lemmas.Int.{ints}
 use Rattle.std.proofs.lemmas.Bool.Decides.{eqb_tells, leb_tells}
-use Rattle.std.proofs.lemmas.List.Elements.{All-nil, All-cons, All-head, All-tail, Contains-append_left, Contains-append_right, Contains-append_cases, Contains-push, Contains-push_cases}
+use Rattle.std.proofs.lemmas.List.Elements.{All-nil, All-cons, All-head, All-tail, Contains-append_left}
+use Rattle.std.proofs.lemmas.List.Elements.{Contains-append_right, Contains-append_cases, Contains-push}
+use Rattle.std.proofs.lemmas.List.Elements.{Contains-push_cases}
 use Rattle.std.specs.List.{All, AllZip, Contains, list_all}
 use Rattle.fold_theory.specs.declared.Phase.{Phase}
 use Rattle.fold_theory.specs.declared.Phase.TheVariants.{Closed, Counted}
 use Rattle.lattice_theory.specs.Vectors.{Vector, is_zero, zeros}
-use Rattle.fold_theory.specs.Programs.{Program, Brick, Bricks, IsWithin, AreWithin, link_miss, link_rests, IsLength, widest}
+use Rattle.fold_theory.specs.Programs.{Program, Brick, Bricks, IsWithin, AreWithin, link_miss, link_rests, IsLength}
+use Rattle.fold_theory.specs.Programs.{widest}
 use Rattle.run_theory.specs.Steps.{moved, partial_sums, IsWalk, AllowsEnd, gain, Augments}
 
 -- it holds, or it doesn't
@@ -46,7 +50,8 @@ decided_int_le : (a b : ℤ) → Decided (a ≤ℤ b)
 decided_int_le (pos m) (pos n) = decided_as (λ e. omega (arith, ints, e)) (λ e. omega (arith, ints, e)) (decided_le m n)
 decided_int_le (pos m) (negsuc n) = inr (λ e. absurd (omega (arith, ints, e)))
 decided_int_le (negsuc m) (pos n) = inl (omega (arith, ints))
-decided_int_le (negsuc m) (negsuc n) = decided_as (λ e. omega (arith, ints, e)) (λ e. omega (arith, ints, e)) (decided_le n m)
+decided_int_le (negsuc m) (negsuc n) = decided_as (λ e. omega (arith, ints, e)) (λ e. omega (arith, ints, e))
+    (decided_le n m)
 
 decided_vector : (u v : Vector) → Decided (u ≡ v)
 decided_vector [] [] = inl refl
@@ -79,7 +84,8 @@ decided_either (inr n) (inr m) = inr (⊎_elim n m)
 decided_contains : (zs : List Vector) (v : Vector) → Decided (Contains zs v)
 decided_contains [] v = inr (contains_none v)
 decided_contains (z ∷ zs) v =
-    decided_as (contains_cons v z zs) (cons_contains v z zs) (decided_either (decided_vector z v) (decided_contains zs v))
+    decided_as (contains_cons v z zs) (cons_contains v z zs)
+    (decided_either (decided_vector z v) (decided_contains zs v))
 
 decided_all : {X : Type 0} (P : X → Type 0) → ((x : X) → Decided (P x)) → (xs : List X) → Decided (All P xs)
 decided_all P each [] = inl (All-nil P)
@@ -108,7 +114,8 @@ decided_walk zs k bricks x w h =
     record { size = d.0; moves = d.1.0; sums = d.1.1.0; within = d.1.1.1 })
     (λ (walk : IsWalk zs k bricks x w h). (walk.size, (walk.moves, (walk.sums, walk.within))))
     (decided_both (decided_nat (length h) (length x)) (decided_both (decided_all (Contains zs) (decided_contains zs) h)
-    (decided_both (decided_all (Contains zs) (decided_contains zs) (partial_sums w h)) (decided_within bricks (moved x k h)))))
+    (decided_both (decided_all (Contains zs) (decided_contains zs) (partial_sums w h))
+    (decided_within bricks (moved x k h)))))
 
 decided_end : (p : Program) (phase : Phase) (y : Bricks) → Decided (AllowsEnd p phase y)
 decided_end p Closed y = decided_nat (link_miss p (link_rests p y)) 0
@@ -126,7 +133,10 @@ module _ (p : Program) (phase : Phase) (zs : List Vector) (x : Bricks) (k : ℕ)
       decided_as
       (λ (d : ((list_all is_zero h ≡ false) × (IsWalk zs k p.bricks x (zeros p.brick.cols) h × (IsLength p k × AllowsEnd p phase (moved x k h))))
       × (pos 0 <ℤ gain p phase x k h)).
-      record { candidate = record { nonzero = d.0.0; walk = d.0.1.0; length = d.0.1.1.0; end = d.0.1.1.1 }; lowers = d.1 })
+      record {
+        candidate = record { nonzero = d.0.0; walk = d.0.1.0; length = d.0.1.1.0; end = d.0.1.1.1 };
+        lowers = d.1;
+      })
       (λ (a : Augments p phase zs x k h). let c = a.candidate in ((c.nonzero, (c.walk, (c.length, c.end))), a.lowers))
       (decided_both (decided_both (decided_bool (list_all is_zero h))
       (decided_both (decided_walk zs k p.bricks x (zeros p.brick.cols) h)

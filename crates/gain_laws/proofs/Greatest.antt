@@ -1,8 +1,11 @@
 -- The greatest gain of the moves of one length, by going through all of them.
-use Rattle.std.proofs.Common.{◌≡◌, ℕ, zero, suc, ◌<◌, ◌≤◌, ℤ, pos, negsuc, ◌<ℤ◌, unsigned_abs, List, [], ◌∷◌, ◌++◌, map, length, Option, Some, None, refl, subst, arith, ⊎_elim, le_refl}
+use Rattle.std.proofs.Common.{◌≡◌, ℕ, zero, suc, ◌<◌, ◌≤◌, ℤ, pos, negsuc, ◌<ℤ◌, unsigned_abs, List, [], ◌∷◌, ◌++◌, map}
+use Rattle.std.proofs.Common.{length, Option, Some, None, refl, subst, arith, ⊎_elim, le_refl}
 use Rattle.std.proofs.lemmas.Int.{ints}
 use Rattle.std.proofs.lemmas.Bool.Decides.{leb_tells}
-use Rattle.std.proofs.lemmas.List.Elements.{All-nil, All-cons, All-head, All-tail, All-weaker, All-contains, Contains-append_left, Contains-append_right, Contains-append_cases, Contains-push, Contains-push_cases}
+use Rattle.std.proofs.lemmas.List.Elements.{All-nil, All-cons, All-head, All-tail, All-weaker, All-contains}
+use Rattle.std.proofs.lemmas.List.Elements.{Contains-append_left, Contains-append_right, Contains-append_cases}
+use Rattle.std.proofs.lemmas.List.Elements.{Contains-push, Contains-push_cases}
 use Rattle.std.specs.List.{All, Contains}
 use Rattle.fold_theory.specs.declared.Phase.{Phase}
 use Rattle.lattice_theory.specs.Vectors.{Vector}
@@ -41,7 +44,8 @@ in_with_first (y ∷ zs) hs z h has inside = ⊎_elim
     (λ (e : y ≡ z). Contains-append_left (map (λ g. y ∷ g) hs) (with_first zs hs) (z ∷ h)
     (subst (λ v. Contains (map (λ g. y ∷ g) hs) (v ∷ h)) e (in_map y hs h inside)))
     (Contains-push_cases [] y z one))
-    (λ rest. Contains-append_right (map (λ g. y ∷ g) hs) (with_first zs hs) (z ∷ h) (in_with_first zs hs z h rest inside))
+    (λ rest. Contains-append_right (map (λ g. y ∷ g) hs) (with_first zs hs) (z ∷ h)
+    (in_with_first zs hs z h rest inside))
     (Contains-append_cases (y ∷ []) zs z has)
 
 -- a move of listed vectors is one of them
@@ -75,7 +79,8 @@ module _ (p : Program) (phase : Phase) (zs : List Vector) (x : Bricks) (k : ℕ)
   top_else h hs not (Some g) top = (top.0, All-cons (λ y. Gaining y → worth y ≤ g) h hs (λ a. absurd (not a)) top.1)
 
   -- one move more, which gains
-  top_with : (h : Bricks) (hs : List Bricks) → Gaining h → (g : Option ℕ) → IsTop hs g → (g' : Option ℕ) × IsTop (h ∷ hs) g'
+  top_with : (h : Bricks) (hs : List Bricks) → Gaining h → (g : Option ℕ) → IsTop hs g →
+      (g' : Option ℕ) × IsTop (h ∷ hs) g'
   top_with h hs a None top = (
     Some (worth h),
     (
@@ -111,7 +116,11 @@ module _ (p : Program) (phase : Phase) (zs : List Vector) (x : Bricks) (k : ℕ)
 
   top_gain : (g : Option ℕ) → IsTop (all_moves zs (length x)) g → IsGain p phase zs x k g
   top_gain None top = λ h a. All-contains (λ y. Gaining y → ⊥) (all_moves zs (length x)) h top (among h a) a
-  top_gain (Some g) top = (top.0, λ h a. All-contains (λ y. Gaining y → worth y ≤ g) (all_moves zs (length x)) h top.1 (among h a) a)
+  top_gain (Some g) top = (
+    top.0,
+    λ h a. All-contains (λ y. Gaining y → worth y ≤ g) (all_moves zs (length x)) h top.1
+        (among h a) a,
+  )
 
   pub has_gain : (g : Option ℕ) × IsGain p phase zs x k g
   has_gain = let top = top_of (all_moves zs (length x)) in (top.0, top_gain top.0 top.1)

@@ -1,3 +1,4 @@
 mod Decisions
 mod Greatest
 pub mod AllGains
+pub mod Keys

@@ -1,7 +1,9 @@
 -- The kernel of a slack basis is a list of generators.
-use Rattle.std.proofs.Common.{◌≡◌, Bool, true, false, cond, List, [], ◌∷◌, map, take, drop, get_or, ◌∙◌, subst, inl, inr}
+use Rattle.std.proofs.Common.{◌≡◌, Bool, true, false, cond, List, [], ◌∷◌, map, take, drop, get_or, ◌∙◌, subst, inl}
+use Rattle.std.proofs.Common.{inr}
 use Rattle.std.specs.List.{All, AllByRecursion, filter}
-use Rattle.std.proofs.lemmas.List.Elements.{All-map, All-filter, recursion_from_All, All-from_recursion, Contains-get_or}
+use Rattle.std.proofs.lemmas.List.Elements.{All-map, All-filter, recursion_from_All, All-from_recursion}
+use Rattle.std.proofs.lemmas.List.Elements.{Contains-get_or}
 use Rattle.lattice_theory.specs.Vectors.{Vector, is_zero, leads_positive, is_rising, lex_less, same, opposite}
 use Rattle.lattice_theory.specs.Matrices.{Matrix}
 use Rattle.lattice_theory.specs.Lattices.{IsSlackBasis, kernel}

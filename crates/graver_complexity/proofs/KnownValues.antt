@@ -1,5 +1,6 @@
 -- The words at values worked by hand: two rows with one entry each that is one too large.
-use Rattle.std.proofs.Common.{◌≡◌, ℕ, zero, suc, ◌<◌, ◌^◌, ℤ, pos, unsigned_abs, [], ◌∷◌, refl, ap, arith, Some, slice_get}
+use Rattle.std.proofs.Common.{◌≡◌, ℕ, zero, suc, ◌<◌, ◌^◌, ℤ, pos, unsigned_abs, [], ◌∷◌, refl, ap, arith, Some}
+use Rattle.std.proofs.Common.{slice_get}
 use Rattle.lattice_theory.specs.Vectors.{Vector}
 use Rattle.lattice_theory.specs.Matrices.{Matrix}
 use Rattle.graver_complexity.specs.declared.fault.LinkFault.TheVariants.{WideEntry, Memory}

@@ -1,5 +1,7 @@
 -- Laws of the link matrix, which is made row by row and entry by entry.
-use Rattle.std.proofs.Common.{◌≡◌, ℕ, zero, suc, ◌+◌, ◌*◌, ◌<◌, ◌≤◌, ◌^◌, ℤ, unsigned_abs, List, [], ◌∷◌, ◌++◌, length, map, take, ap, arith, sym, ◌∙◌, subst, Some, slice_get, option_map, flat_map, append_assoc, inl, inr, Result, Ok, Err, IfErr, IsErrAnd}
+use Rattle.std.proofs.Common.{◌≡◌, ℕ, zero, suc, ◌+◌, ◌*◌, ◌<◌, ◌≤◌, ◌^◌, ℤ, unsigned_abs, List, [], ◌∷◌, ◌++◌, length}
+use Rattle.std.proofs.Common.{map, take, ap, arith, sym, ◌∙◌, subst, Some, slice_get, option_map, flat_map}
+use Rattle.std.proofs.Common.{append_assoc, inl, inr, Result, Ok, Err, IfErr, IsErrAnd}
 use Rattle.std.specs.List.{All}
 use Rattle.std.proofs.lemmas.Bool.{cases_lt}
 use Rattle.std.proofs.lemmas.List.{take_more, take_all, take-map, map-append, append-nil, length-map}
@@ -11,8 +13,8 @@ use Rattle.lattice_theory.specs.Matrices.{Matrix, rows_of}
 use Rattle.lattice_theory.specs.BasisLimits.{IsNarrow}
 use Rattle.run_theory.specs.Links.{link_matrix}
 use Rattle.run_theory.specs.Limits.{IsFirstWide}
+use Rattle.lattice_laws.proofs.Places.{slice_get-All}
 use Rattle.pottier.proofs.BasisLaws.{entries_fit, matrix_again}
-use Rattle.brick_sums.proofs.SumLaws.{slice_get-All}
 use Rattle.graver_complexity.specs.declared.fault.LinkFault.{LinkFault}
 use Rattle.graver_complexity.specs.declared.fault.LinkFault.TheVariants.{WideEntry, Memory}
 use Rattle.graver_complexity.specs.Refusals.{IsFirstWideOf, IsWideInRow, IsWideEntry}
@@ -99,7 +101,8 @@ pub rows_none : (vectors rows : List Vector) (entries : Vector) → entries ≡ 
 rows_none vectors rows entries none = record { made = none; narrow = All-nil IsNarrow }
 
 module _ (vectors rows : List Vector) (i : ℕ) where
-  pub rows_more : (row entries newer : Vector) → slice_get rows i ≡ Some row → newer ≡ entries ++ map (dot row) vectors →
+  pub rows_more : (row entries newer : Vector) → slice_get rows i ≡ Some row →
+      newer ≡ entries ++ map (dot row) vectors →
       IsNarrow (map (dot row) vectors) → AreRows vectors rows i entries → AreRows vectors rows (i + 1) newer
   rows_more row entries newer there added small so_far =
       let here = map (dot row) vectors in
@@ -138,7 +141,8 @@ module _ (vectors rows : List Vector) (i : ℕ) where
         wide = wide.wide;
         above = λ k v below at. slice_get-All IsNarrow (take i all) k v (slice_get-take all i k v below at) above;
         before = λ k a below at.
-            slice_get-All (λ b. unsigned_abs b < 2 ^ 31) (take wide.j here) k a (slice_get-take here wide.j k a below at)
+            slice_get-All (λ b. unsigned_abs b < 2 ^ 31) (take wide.j here) k a
+            (slice_get-take here wide.j k a below at)
             wide.before;
       }
 
@@ -176,13 +180,15 @@ module _ (a1 : Matrix) (vectors : List Vector) (i : ℕ) (entries : Vector) (all
   pub rows_fit : (count cols : ℕ) → count ≡ length a1.rows → cols ≡ length vectors → length entries ≡ count * cols
   rows_fit count cols e f =
       entries_fit count cols (link_rows vectors a1.rows) entries (count_is count e) whole
-      (subst (λ n. All (λ (row : Vector). length row ≡ n) (link_rows vectors a1.rows)) (sym f) (link_widths vectors a1.rows))
+      (subst (λ n. All (λ (row : Vector). length row ≡ n) (link_rows vectors a1.rows)) (sym f)
+      (link_widths vectors a1.rows))
 
   pub rows_whole : (count cols : ℕ) → count ≡ length a1.rows → cols ≡ length vectors →
       record { cols = cols; rows = rows_of count cols entries } ≡ link_matrix a1 vectors
   rows_whole count cols e f =
       matrix_again (link_matrix a1 vectors) count cols entries (count_is count e) f whole
-      (subst (λ n. All (λ (row : Vector). length row ≡ n) (link_rows vectors a1.rows)) (sym f) (link_widths vectors a1.rows))
+      (subst (λ n. All (λ (row : Vector). length row ≡ n) (link_rows vectors a1.rows)) (sym f)
+      (link_widths vectors a1.rows))
 
   pub rows_narrow : All IsNarrow (link_rows vectors a1.rows)
   rows_narrow = subst (λ rows. All IsNarrow (link_rows vectors rows)) (take_all i a1.rows all) so_far.narrow

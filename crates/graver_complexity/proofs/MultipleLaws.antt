@@ -1,18 +1,22 @@
 -- Laws of the multiples of one generator: they rise, and each is a sum of as many generators as its factor says.
-use Rattle.std.proofs.Common.{◌≡◌, ℕ, zero, suc, ◌+◌, ◌*◌, ◌<◌, ◌≤◌, ℤ, pos, negsuc, ◌+ℤ◌, ◌-ℤ◌, ◌*ℤ◌, neg_ℤ, unsigned_abs, true, false, ◌&&◌, List, [], ◌∷◌, length, refl, ap, arith, sym, ◌∙◌, subst, Contains, ◌⊎◌, inl, inr}
+use Rattle.std.proofs.Common.{◌≡◌, ℕ, zero, suc, ◌+◌, ◌*◌, ◌<◌, ◌≤◌, ℤ, pos, negsuc, ◌+ℤ◌, ◌-ℤ◌, ◌*ℤ◌, neg_ℤ}
+use Rattle.std.proofs.Common.{unsigned_abs, true, false, ◌&&◌, List, [], ◌∷◌, length, refl, ap, arith, sym, ◌∙◌, subst}
+use Rattle.std.proofs.Common.{Contains, ◌⊎◌, inl, inr}
 use Rattle.std.specs.List.{All}
 use Rattle.std.specs.Ordering.{is_lt, int_cmp, ordering_then}
 use Rattle.std.specs.declared.cmp.Ordering.TheVariants.{Less, Equal}
 use Rattle.std.proofs.lemmas.Int.{ints}
-use Rattle.std.proofs.Math.IntN.{zero-*ℤ, *ℤ_comm}
+use Rattle.std.proofs.Math.IntN.{*ℤ_comm}
 use Rattle.std.proofs.lemmas.List.{length-map}
 use Rattle.std.proofs.lemmas.List.Elements.{All-contains}
-use Rattle.lattice_theory.specs.Vectors.{Vector, add, sub, scale, opposite, zeros, is_zero, leads_positive, lex_less, lex_cmp, is_rising}
+use Rattle.lattice_theory.specs.Vectors.{Vector, add, sub, scale, opposite, zeros, is_zero, leads_positive, lex_less}
+use Rattle.lattice_theory.specs.Vectors.{lex_cmp, is_rising}
 use Rattle.lattice_theory.specs.SignedSums.{Sum, IsSignedSum, AreSums, vectors}
 use Rattle.lattice_laws.proofs.Members.{contains_cases, contains_head}
 use Rattle.lattice_laws.proofs.Conformal.{sub-opposite, opposite-opposite, length-opposite, length-add, leads_either}
 use Rattle.lattice_laws.proofs.Products.{times_sum}
 use Rattle.lattice_laws.proofs.Rising.{rising_length}
+use Rattle.lattice_laws.proofs.Multiples.{scale_zero}
 
 -- ---- multiples
 
@@ -33,10 +37,6 @@ add_then_sub (a ∷ u) (b ∷ e) same =
 scale-before : (a : ℤ) (e : Vector) → scale a e ≡ sub (scale (a +ℤ pos 1) e) e
 scale-before a e =
     sym (add_then_sub (scale a e) e (length-map e (λ x. a *ℤ x))) ∙ ap (λ u. sub u e) (sym (scale-next a e))
-
-scale-none : (e : Vector) → scale (pos 0) e ≡ zeros (length e)
-scale-none [] = refl
-scale-none (x ∷ e) = λ i. zero-*ℤ x i ∷ scale-none e i
 
 -- ---- the list of multiples
 
@@ -112,7 +112,7 @@ module _ (t : ℕ) (gens : List Vector) (e : Vector) where
   sum_sub n before (inr listed) sum = (before, opposite e, sum, listed, inl (sub-opposite before e))
 
   multiple_up : (n : ℕ) → IsSigned gens e → length e ≡ t → IsSignedSum t gens n (scale (pos n) e)
-  multiple_up zero signed size = scale-none e ∙ ap zeros size
+  multiple_up zero signed size = scale_zero e ∙ ap zeros size
   multiple_up (suc n) signed size =
       let next : pos n +ℤ pos 1 ≡ pos (suc n) = omega (arith, ints) in
       subst (IsSignedSum t gens (suc n)) (sym (scale-next (pos n) e) ∙ ap (λ b. scale b e) next)

@@ -1,9 +1,12 @@
 -- Laws of the norms of first parts, and of the complexity, which is the greatest of them.
-use Rattle.std.proofs.Common.{◌≡◌, ℕ, ◌+◌, ◌*◌, ◌<◌, ◌≤◌, ◌^◌, max, unsigned_abs, Bool, true, false, cond, ◌&&◌, List, [], ◌∷◌, ◌++◌, length, map, take, get_or, refl, ap, arith, sym, ◌∙◌, Some, slice_get, flat_map, inl, inr, length-take}
-use Rattle.std.specs.List.{All, AllByRecursion, filter, list_all}
+use Rattle.std.proofs.Common.{◌≡◌, ℕ, ◌+◌, ◌<◌, ◌≤◌, ◌^◌, max, unsigned_abs, Bool, true, false, cond, ◌&&◌, List, []}
+use Rattle.std.proofs.Common.{◌∷◌, ◌++◌, length, map, take, get_or, refl, ap, arith, sym, ◌∙◌, Some, slice_get}
+use Rattle.std.proofs.Common.{flat_map, inl, inr, length-take}
+use Rattle.std.specs.List.{All, filter, list_all}
 use Rattle.std.proofs.lemmas.Bool.{cases_lt}
 use Rattle.std.proofs.lemmas.List.{take_more, take_all, map-append, length-map, get_or-map, take_at}
-use Rattle.std.proofs.lemmas.List.Elements.{All-take, All-map, All-weaker, All-get_or, recursion_from_All, filter-append}
+use Rattle.std.proofs.lemmas.List.Elements.{All-take, All-map, All-weaker, All-get_or, recursion_from_All}
+use Rattle.std.proofs.lemmas.List.Elements.{filter-append}
 use Rattle.std.proofs.lemmas.List.Folds.{list_all-append}
 use Rattle.std.proofs.lemmas.Option.{slice_get_within, get_or_from_slice_get}
 use Rattle.fold_theory.specs.declared.Phase.{Phase}
@@ -14,19 +17,14 @@ use Rattle.lattice_theory.specs.Matrices.{Matrix}
 use Rattle.lattice_theory.specs.Lattices.{IsSlackBasis}
 use Rattle.lattice_theory.specs.BasisLimits.{IsNarrow, IsBasisElement}
 use Rattle.run_theory.specs.Links.{counts_in, least_complexity, complexity}
-use Rattle.lattice_laws.proofs.Conformal.{norm1-cons}
 use Rattle.lattice_laws.proofs.Elements.{lifted, element-lifted}
 use Rattle.lattice_laws.proofs.UnitVectors.{first_units, length-first_units, units_elements, units_differ, without_rows}
 use Rattle.lattice_laws.proofs.Rising.{AreDifferent}
 use Rattle.lattice_laws.proofs.SlackBases.{exceeds_by_many, within_or_exceeds}
-use Rattle.brick_sums.proofs.SumLaws.{slice_get-All}
+use Rattle.lattice_laws.proofs.Narrow.{norm1-narrow}
+use Rattle.lattice_laws.proofs.Members.{greatest-append}
 
 -- ---- norms
-
--- the norm of a narrow vector
-norm1-narrow : (v : Vector) → AllByRecursion (λ a. unsigned_abs a < 2 ^ 31) v → norm1 v ≤ 2 ^ 31 * length v
-norm1-narrow [] each = omega arith
-norm1-narrow (a ∷ v) each = omega (arith, norm1-cons a v, each.0, norm1-narrow v each.1)
 
 pub norm1-first_part : (cols : ℕ) (z : Vector) → cols ≤ 2000 → IsNarrow z → norm1 (take cols z) < 2 ^ 43
 norm1-first_part cols z few narrow =
@@ -58,21 +56,19 @@ least_complexity-from m = by (list_all is_zero m.rows)
 
 -- ---- the greatest norm
 
-greatest-append : (xs ys : List ℕ) → greatest (xs ++ ys) ≡ max (greatest xs) (greatest ys)
-greatest-append [] ys = omega arith
-greatest-append (x ∷ xs) ys = omega (arith, greatest-append xs ys)
-
 -- the norms of the first parts that count
 abbrev pub norms : Phase → List Relation → ℕ → List Vector → List ℕ
 norms phase relations cols zs = map (λ z. norm1 (take cols z)) (filter (counts_in phase relations cols) zs)
 
 -- the complexity as the first elements have it
-pub record IsGreatest (phase : Phase) (relations : List Relation) (m : Matrix) (elements : List Vector) (i most : ℕ) : Type 0 where
+pub record IsGreatest (phase : Phase) (relations : List Relation) (m : Matrix) (elements : List Vector) (i most : ℕ) :
+    Type 0 where
   pub is : most ≡ max (least_complexity m) (greatest (norms phase relations m.cols (take i elements)))
   pub from : 1 ≤ most
   pub small : most < 2 ^ 43
 
-pub greatest_none : (phase : Phase) (relations : List Relation) (m : Matrix) (elements : List Vector) (most : ℕ) → most ≡ least_complexity m →
+pub greatest_none : (phase : Phase) (relations : List Relation) (m : Matrix) (elements : List Vector) (most : ℕ) →
+    most ≡ least_complexity m →
     IsGreatest phase relations m elements 0 most
 greatest_none phase relations m elements most e =
     let least = least_complexity-from m in
@@ -86,7 +82,8 @@ module _ (phase : Phase) (relations : List Relation) (m : Matrix) (elements : Li
       ap (norms phase relations m.cols)
       (take_more elements i z (slice_get_within elements i z there)
       ∙ ap (λ y. take i elements ++ y ∷ []) (get_or_from_slice_get elements i z z there))
-      ∙ ap (map (λ y. norm1 (take m.cols y))) (filter-append (counts_in phase relations m.cols) (take i elements) (z ∷ []))
+      ∙ ap (map (λ y. norm1 (take m.cols y))) (filter-append (counts_in phase relations m.cols) (take i elements) (z
+      ∷ []))
       ∙ map-append (λ (y : Vector). norm1 (take m.cols y)) (filter (counts_in phase relations m.cols) (take i elements))
       (filter (counts_in phase relations m.cols) (z ∷ []))
 
@@ -94,7 +91,8 @@ module _ (phase : Phase) (relations : List Relation) (m : Matrix) (elements : Li
       greatest (norms phase relations m.cols (take (i + 1) elements))
       ≡ max (greatest (norms phase relations m.cols (take i elements))) (cond b (norm1 (take m.cols z)) 0)
   next_greatest b e =
-      ap greatest next ∙ greatest-append (norms phase relations m.cols (take i elements)) (norms phase relations m.cols (z ∷ []))
+      ap greatest next ∙ greatest-append (norms phase relations m.cols (take i elements))
+      (norms phase relations m.cols (z ∷ []))
       ∙ ap (max (greatest (norms phase relations m.cols (take i elements))))
       (ap (λ c. greatest (map (λ (y : Vector). norm1 (take m.cols y)) (cond c (z ∷ []) []))) e ∙ one b)
     where
@@ -105,7 +103,8 @@ module _ (phase : Phase) (relations : List Relation) (m : Matrix) (elements : Li
 
   -- an element that counts
   pub greatest_counted : (most norm : ℕ) → counts_in phase relations m.cols z ≡ true → norm ≡ norm1 (take m.cols z) →
-      norm < 2 ^ 43 → IsGreatest phase relations m elements i most → IsGreatest phase relations m elements (i + 1) (max most norm)
+      norm < 2 ^ 43 → IsGreatest phase relations m elements i most →
+      IsGreatest phase relations m elements (i + 1) (max most norm)
   greatest_counted most norm counts e small so_far = record {
     is = omega (arith, next_greatest true counts, e, so_far.is);
     from = omega (arith, so_far.from);
@@ -113,7 +112,8 @@ module _ (phase : Phase) (relations : List Relation) (m : Matrix) (elements : Li
   }
 
   -- an element that does not count
-  pub greatest_left : (most : ℕ) → counts_in phase relations m.cols z ≡ false → IsGreatest phase relations m elements i most →
+  pub greatest_left : (most : ℕ) → counts_in phase relations m.cols z ≡ false →
+      IsGreatest phase relations m elements i most →
       IsGreatest phase relations m elements (i + 1) most
   greatest_left most counts so_far = record {
     is = omega (arith, next_greatest false counts, so_far.is);
@@ -121,10 +121,12 @@ module _ (phase : Phase) (relations : List Relation) (m : Matrix) (elements : Li
     small = so_far.small;
   }
 
-pub greatest_all : (phase : Phase) (relations : List Relation) (m : Matrix) (elements : List Vector) (i most : ℕ) → length elements ≤ i →
+pub greatest_all : (phase : Phase) (relations : List Relation) (m : Matrix) (elements : List Vector) (i most : ℕ) →
+    length elements ≤ i →
     IsGreatest phase relations m elements i most → most ≡ complexity phase relations m elements
 greatest_all phase relations m elements i most all so_far =
-    so_far.is ∙ ap (λ zs. max (least_complexity m) (greatest (norms phase relations m.cols zs))) (take_all i elements all)
+    so_far.is ∙ ap (λ zs. max (least_complexity m) (greatest (norms phase relations m.cols zs)))
+    (take_all i elements all)
 
 -- ---- the number of columns
 
@@ -154,7 +156,8 @@ unit_elements-differ m i j d before low same =
     cut_again k below =
         let unit = get_or (first_units m.cols m.cols) k [] in
         let is =
-        All-get_or (IsBasisElement (without_rows m.cols)) (first_units m.cols m.cols) k [] below (units_elements m.cols) in
+        All-get_or (IsBasisElement (without_rows m.cols)) (first_units m.cols m.cols) k [] below
+        (units_elements m.cols) in
         sym (take_at unit (map (λ (row : Vector). dot row (take m.cols unit)) m.rows) m.cols
         (omega (arith, is.0.member.size)))
 
@@ -179,9 +182,3 @@ pub cols-few : (m : Matrix) (basis : List Vector) (size : ℕ) → IsSlackBasis 
 cols-few m basis size slack members few =
     let narrow = All-weaker (λ z. (length z ≡ size) × IsNarrow z) IsNarrow (λ z is. is.1) basis members in
     omega (arith, cols-basis m basis slack narrow, few)
-
--- an element has an entry for each column and for each row
-pub length-element : (m : Matrix) (basis : List Vector) (i : ℕ) (z : Vector) → IsSlackBasis m basis →
-    slice_get basis i ≡ Some z → length z ≡ m.cols + length m.rows
-length-element m basis i z slack there =
-    let is = slice_get-All (IsBasisElement m) basis i z there slack.sound in is.0.member.size

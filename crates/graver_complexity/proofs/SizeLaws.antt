@@ -1,10 +1,11 @@
 -- Laws of the size of signed sums, and of their products with rows.
-use Rattle.std.proofs.Common.{◌≡◌, ℕ, zero, suc, ◌+◌, ◌-◌, ◌*◌, ◌<◌, ◌≤◌, ◌^◌, pos, ◌+ℤ◌, neg_ℤ, unsigned_abs, List, [], ◌∷◌, length, map, get_or, ap, arith, sym, ◌∙◌, subst, inl, inr, Contains}
+use Rattle.std.proofs.Common.{◌≡◌, ℕ, zero, suc, ◌+◌, ◌-◌, ◌*◌, ◌<◌, ◌≤◌, ◌^◌, pos, ◌+ℤ◌, neg_ℤ, unsigned_abs, List, []}
+use Rattle.std.proofs.Common.{◌∷◌, length, map, get_or, ap, arith, sym, ◌∙◌, subst, inl, inr, Contains}
 use Rattle.std.specs.List.{All, AllByRecursion}
 use Rattle.std.proofs.lemmas.Int.{ints}
 use Rattle.std.proofs.lemmas.List.{length-map, get_or-map}
 use Rattle.std.proofs.lemmas.List.Elements.{All-contains, All-weaker, All-from_recursion, recursion_from_All}
-use Rattle.lattice_theory.specs.Vectors.{Vector, add, sub, zeros, dot, opposite}
+use Rattle.lattice_theory.specs.Vectors.{Vector, add, sub, dot, opposite}
 use Rattle.lattice_theory.specs.Matrices.{Matrix, product}
 use Rattle.lattice_theory.specs.BasisLimits.{IsNarrow}
 use Rattle.lattice_theory.specs.SignedSums.{IsSignedSum}
@@ -12,15 +13,11 @@ use Rattle.run_theory.specs.Links.{link_matrix}
 use Rattle.lattice_laws.proofs.Signs.{abs_opposite, abs_sum}
 use Rattle.lattice_laws.proofs.Conformal.{sub-opposite, length-opposite}
 use Rattle.lattice_laws.proofs.Products.{dot-add, dot-opposite, dot-zeros}
-use Rattle.brick_sums.proofs.SumLaws.{IsSignedSum-width}
+use Rattle.brick_sums.proofs.SumLaws.{IsSignedSum-width, IsWithin-zeros}
 
 -- every entry is at most this in absolute value
 abbrev IsWithin : ℕ → Vector → Type 0
 IsWithin most v = AllByRecursion (λ a. unsigned_abs a ≤ most) v
-
-zeros-IsWithin : (most t : ℕ) → IsWithin most (zeros t)
-zeros-IsWithin most zero = tt
-zeros-IsWithin most (suc t) = (omega arith, zeros-IsWithin most t)
 
 add-IsWithin : (m n : ℕ) (u v : Vector) → IsWithin m u → IsWithin n v → IsWithin (n + m) (add u v)
 add-IsWithin m n [] v left right = tt
@@ -52,7 +49,7 @@ one_more n most = omega arith
 module _ (t most : ℕ) (gens : List Vector) (each : (e : Vector) → Contains gens e → IsWithin most e) where
   -- an entry of a sum of n generators is at most n times that of a generator
   sum-IsWithin : (n : ℕ) (w : Vector) → IsSignedSum t gens n w → IsWithin (n * most) w
-  sum-IsWithin zero w sum = subst (IsWithin (zero * most)) (sym sum) (zeros-IsWithin (zero * most) t)
+  sum-IsWithin zero w sum = subst (IsWithin (zero * most)) (sym sum) (IsWithin-zeros (zero * most) t)
   sum-IsWithin (suc n) w (before, e, sum, listed, inl plus) =
       subst (IsWithin (suc n * most)) (sym plus)
       (subst (λ k. IsWithin k (add before e)) (one_more n most)

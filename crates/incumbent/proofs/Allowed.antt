@@ -1,22 +1,24 @@
 -- Each atomic step is allowed by the rule of the board's table, and tells what it says.
-use Rattle.std.proofs.Common.{◌≡◌, ◌≢◌, ℕ, suc, ◌+◌, ◌*◌, ◌/◌, ◌%◌, ◌^◌, ◌<◌, ◌≤◌, ◌⊎◌, eqb, List, [], ◌∷◌, length, take, replicate, set, slice_index, Option, Some, None, IfSome, IsTrue, refl, ap, sym, ◌∙◌, subst, arith, add-one, inr, eq-eqb, ne_eqb}
+use Rattle.std.proofs.Common.{◌≡◌, ◌≢◌, ℕ, suc, ◌+◌, ◌*◌, ◌/◌, ◌%◌, ◌^◌, ◌<◌, ◌≤◌, ◌⊎◌, eqb, List, [], ◌∷◌, length}
+use Rattle.std.proofs.Common.{take, replicate, set, slice_index, Option, Some, None, IfSome, IsTrue, refl, ap, sym, ◌∙◌}
+use Rattle.std.proofs.Common.{subst, arith, add-one, eq-eqb, ne_eqb}
 use Rattle.std.proofs.lemmas.List.{set-get_or, take-replicate}
-use mathlib.Core.Option.{none, some}
+use mathlib.Core.Option.{none}
 use mathlib.Core.Logic.{dite}
 use native.Mathlib.Decide.{ℕ_discrete}
 use prog.Atomic.{either}
 use Rattle.atomic_table.specs.Table.{State, step, keeps, stepped, Allows, Splits, Joins}
-use Rattle.round_core.specs.declared.events.Event.{Event}
-use Rattle.round_core.specs.declared.events.Event.TheVariants.{Claim, StoreHigh, StoreLow, LoadBest, LoadHigh, LoadLow, Exchange, SplitSeat, JoinSeat}
+use Rattle.round_core.specs.declared.events.Event.TheVariants.{Claim, StoreHigh, StoreLow, LoadBest, LoadHigh, LoadLow}
+use Rattle.round_core.specs.declared.events.Event.TheVariants.{Exchange, SplitSeat, JoinSeat}
 use Rattle.round_core.specs.declared.parts.Fate.TheVariants.{Open, HalfWritten, Written, Offered}
-use Rattle.round_core.specs.declared.parts.Stand.{Stand}
 use Rattle.round_core.specs.declared.parts.Stand.TheVariants.{Working}
 use Rattle.round_core.specs.Rounds.{outranks}
 use Rattle.round_core.specs.Allowed.{is_live}
 use Rattle.board_laws.specs.declared.views.View.{View}
 use Rattle.board_laws.specs.Indexes.{gain_of, length_key, index_key}
-use Rattle.board_laws.specs.Views.{HasFate, opening_view, spent_view, claimed_view, looked_view, marked_view, settling_view, splitting_view, fresh_view, joined_view}
-use Rattle.board_laws.specs.Boards.{IsBoard, IsEvent, claims, best}
+use Rattle.board_laws.specs.Views.{HasFate, opening_view, spent_view, claimed_view, looked_view, marked_view}
+use Rattle.board_laws.specs.Views.{settling_view, splitting_view, fresh_view, joined_view}
+use Rattle.board_laws.specs.Boards.{IsBoard, claims, best}
 use Rattle.board_laws.proofs.Claims.{claim_event, claim_rises}
 use Rattle.board_laws.proofs.Stores.{store_high_event, store_low_event}
 use Rattle.board_laws.proofs.Loads.{look_event, settle_event, load_high_event, load_low_event}
@@ -78,7 +80,8 @@ module _ (gains : List (Option ℕ)) (slots id : ℕ) (me : Sat) (live : IsTrue 
       → IfSome settles (λ k. HasFate k Open me.0.owned ⊎ HasFate k Written me.0.owned)
       → Allows (Ruled gains) slots id me 1 (λ n. n) (Looks gains aim (step slots 1 0 0 none) me)
   load_best_allowed settles aim is has =
-      subst (λ a. Allows (Ruled gains) slots id me 1 (λ n. n) (Looks gains a (step slots 1 0 0 none) me)) is (by settles has)
+      subst (λ a. Allows (Ruled gains) slots id me 1 (λ n. n) (Looks gains a (step slots 1 0 0 none) me)) is
+      (by settles has)
     where
       by : (a : Option ℕ) → IfSome a (λ k. HasFate k Open me.0.owned ⊎ HasFate k Written me.0.owned)
           → Allows (Ruled gains) slots id me 1 (λ n. n) (Looks gains a (step slots 1 0 0 none) me)
@@ -88,20 +91,24 @@ module _ (gains : List (Option ℕ)) (slots id : ℕ) (me : Sat) (live : IsTrue 
   -- ---- the halves
 
   pub store_high_allowed : (k g half : ℕ) → HasFate k Open me.0.owned → gain_of gains k ≡ Some g → half ≡ g / 2 ^ 64
-      → Allows (Ruled gains) slots id me (2 + 2 * k) (λ _. half) (λ _. StoresHigh (step slots (2 + 2 * k) half 0 none) me half)
+      → Allows (Ruled gains) slots id me (2 + 2 * k) (λ _. half) (λ _. StoresHigh (step slots (2 + 2 * k) half 0 none)
+      me half)
   store_high_allowed k g half has gain is s h _ at _ =
       let w : View = marked_view k HalfWritten me.0 in (
         w,
         keeps,
         tt,
         subst (λ z. Ruled gains (stepped s (2 + 2 * k) z id me.1 w keeps)) (sym is)
-            (board_after gains (StoreHigh id k) s.words (set s.words (2 + 2 * k) (g / 2 ^ 64)) s.views (set s.views id w)
+            (board_after gains (StoreHigh id k) s.words (set s.words (2 + 2 * k) (g / 2 ^ 64)) s.views
+            (set s.views id w)
             (store_high_event gains s.words s.views id me.0 at live k g has gain) h),
         λ j e. let same : k ≡ j = omega (arith, e) in ap (λ i. (marked_view i HalfWritten me.0, me.1)) same,
       )
 
-  pub store_low_allowed : (k g half : ℕ) → HasFate k HalfWritten me.0.owned → gain_of gains k ≡ Some g → half ≡ g % 2 ^ 64
-      → Allows (Ruled gains) slots id me (3 + 2 * k) (λ _. half) (λ _. StoresLow (step slots (3 + 2 * k) half 0 none) me half)
+  pub store_low_allowed : (k g half : ℕ) → HasFate k HalfWritten me.0.owned → gain_of gains k ≡ Some g →
+      half ≡ g % 2 ^ 64
+      → Allows (Ruled gains) slots id me (3 + 2 * k) (λ _. half) (λ _. StoresLow (step slots (3 + 2 * k) half 0 none) me
+      half)
   store_low_allowed k g half has gain is s h _ at _ =
       let w : View = marked_view k Written me.0 in (
         w,

@@ -1,5 +1,5 @@
 -- The end of a round, read off the words.
-use Rattle.std.proofs.Common.{◌≡◌, ◌≢◌, ℕ, zero, suc, ◌-◌, ◌<◌, ◌≤◌, List, [], ◌∷◌, length, get_or, Option, Some, None, IsTrue, ap, sym, ◌∙◌, subst, arith}
+use Rattle.std.proofs.Common.{◌≡◌, ◌≢◌, ℕ, suc, ◌-◌, ◌≤◌, List, Option, Some, None, IsTrue, ap, ◌∙◌, subst, arith}
 use mathlib.Core.Option.{some}
 use lib.ListN.{get_elem?}
 use Rattle.atomic_table.specs.Table.{State}
@@ -25,7 +25,8 @@ module _ (gains : List (Option ℕ)) (s : State (Unit {0}) View) (id : ℕ) (v :
   best_is = ap best same ∙ place_get_or words 1 index 0 found
 
   best_by_gains : IsBestByGains gains (length_of index)
-  best_by_gains = subst (λ i. IsBestByGains gains (length_of i)) best_is (board_ends gains s.words s.views id v at live may h).0
+  best_by_gains = subst (λ i. IsBestByGains gains (length_of i)) best_is
+      (board_ends gains s.words s.views id v at live may h).0
 
   before : index ≢ 0 → index ≡ suc (index - 1)
   before nonzero = omega (arith, nonzero)
@@ -33,7 +34,8 @@ module _ (gains : List (Option ℕ)) (s : State (Unit {0}) View) (id : ℕ) (v :
   -- the index is 0, or that of one of 64 lengths
   pub index_few : index ≤ 64
   index_few =
-      let small = index_small gains (best s.words) (best_index gains s.words s.views h.0 (reached_sound gains h.0 h.1) h.2) in
+      let small = index_small gains (best s.words) (best_index gains s.words s.views h.0 (reached_sound gains h.0 h.1)
+      h.2) in
       let few = h.2.few in
       let is = best_is in omega (arith, small, few, is)
 

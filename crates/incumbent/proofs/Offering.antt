@@ -1,9 +1,10 @@
 -- The views of a seat that offers a length, and which index may come next.
-use Rattle.std.proofs.Common.{◌≡◌, ◌≢◌, ℕ, zero, suc, ◌+◌, ◌-◌, ◌*◌, ◌/◌, ◌%◌, ◌^◌, ◌<◌, ◌≤◌, Bool, true, false, cond, eqb, ltb, ◌&&◌, ◌||◌, List, [], ◌∷◌, length, Option, Some, None, IsTrue, option_map, refl, ap, sym, ◌∙◌, subst, arith, div-add-mod'}
+use Rattle.std.proofs.Common.{◌≡◌, ◌≢◌, ℕ, zero, suc, ◌+◌, ◌-◌, ◌*◌, ◌/◌, ◌%◌, ◌^◌, ◌<◌, ◌≤◌, Bool, true, false, cond}
+use Rattle.std.proofs.Common.{eqb, ltb, ◌&&◌, ◌||◌, List, [], ◌∷◌, length, Option, Some, None, IsTrue, option_map, refl}
+use Rattle.std.proofs.Common.{ap, sym, ◌∙◌, subst, arith, div-add-mod'}
 use Rattle.std.proofs.lemmas.Bool.Decides.{nat_tests}
 use Rattle.run_theory.specs.declared.Key.{Key}
 use Rattle.run_theory.specs.Keys.{beats, beaten}
-use Rattle.round_core.specs.declared.parts.Fate.{Fate}
 use Rattle.round_core.specs.declared.parts.Fate.TheVariants.{Open, HalfWritten, Written, Offered, Beaten}
 use Rattle.round_core.specs.Rounds.{outranks}
 use Rattle.board_laws.specs.declared.views.Owned.{Owned}
@@ -22,7 +23,8 @@ gain_within (x ∷ xs) zero g e = omega arith
 gain_within (x ∷ xs) (suc k) g e = let r = gain_within xs k g e in omega arith
 
 -- a length that has a key has the key's gain
-pub key_gain : (gains : List (Option ℕ)) (key : Key) → length_key gains key.k ≡ Some key → gain_of gains key.k ≡ Some key.gain
+pub key_gain : (gains : List (Option ℕ)) (key : Key) → length_key gains key.k ≡ Some key →
+    gain_of gains key.k ≡ Some key.gain
 key_gain gains key is = by (gain_of gains key.k) refl where
   none_some : None ≡ Some key → ⊥
   none_some e = cc
@@ -88,7 +90,8 @@ pub nearer : (gains : List (Option ℕ)) (key : Key) (i j : ℕ) → length gain
 nearer gains key i j few is index found beats above =
     let a = rank_rises (Some key) (index_key gains i)
     (let w = key_within gains key is in omega (arith, w, few)) (index_short gains i few index) beats in
-    let b = rank_rises (index_key gains j) (index_key gains i) (index_short gains j few found) (index_short gains i few index) above in
+    let b = rank_rises (index_key gains j) (index_key gains i) (index_short gains j few found)
+    (index_short gains i few index) above in
     omega (arith, a, b)
 
 -- ---- views
@@ -132,7 +135,8 @@ module _ (gains : List (Option ℕ)) (v : View) (key : Key) (is : length_key gai
       → settling_view u key.k Offered (suc key.k) ≡ settling_view v key.k Offered (suc key.k)
   offered_view u i written =
       ap (λ (x : View). settling_view x key.k Offered (suc key.k)) written
-      ∙ ap (λ (es : List Owned). record v { seen = suc key.k; owned = es }) (marked_marked key.k Written Offered v.owned)
+      ∙ ap (λ (es : List Owned). record v { seen = suc key.k; owned = es })
+      (marked_marked key.k Written Offered v.owned)
 
   pub missed_view : (u : View) (i j : ℕ) → u ≡ settling_view v key.k Written i
       → looked_view gains (Some key.k) u j ≡ offering_view j

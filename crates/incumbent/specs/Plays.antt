@@ -22,7 +22,8 @@ abbrev pub Claims : List (Option ℕ) → Step (Unit {0}) → Sat → ℕ → Sa
 Claims gains s me found me' =
     (me' ≡ (claimed_view (length gains) me.0 found, me.1)) × All (λ e. e.k < found) me.0.owned
 
--- a load of the best index: it is no worse than what the seat saw, and that of no length of the seat that is only Written
+-- a load of the best index: it is no worse than what the seat saw, and that of no length of the seat that is only
+-- Written
 abbrev pub Looks : List (Option ℕ) → Option ℕ → Step (Unit {0}) → Sat → ℕ → Sat → Type 0
 Looks gains settles s me found me' =
     (me' ≡ (looked_view gains settles me.0 found, me.1)) × IsIndex gains found

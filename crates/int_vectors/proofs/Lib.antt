@@ -1,4 +1,4 @@
-mod ProductLaws
+pub mod ProductLaws
 pub mod MultipleLaws
 mod TotalLaws
 pub mod ZipLaws

@@ -1,9 +1,12 @@
 -- Laws of the greatest multiple of one vector that is conformally below another.
-use Rattle.std.proofs.Common.{◌≡◌, ℕ, zero, suc, ◌*◌, ◌<◌, ◌≤◌, pos, negsuc, ℤ, ◌*ℤ◌, Bool, true, false, ◌&&◌, List, [], ◌∷◌, length, refl, ap, arith, sym, ◌∙◌, ◌⊎◌, inl, inr, min, fold, unsigned_abs, ◌/◌, ◌≢◌, nat_le}
+use Rattle.std.proofs.Common.{◌≡◌, ℕ, zero, suc, ◌*◌, ◌<◌, ◌≤◌, pos, negsuc, ℤ, ◌*ℤ◌, true, false, ◌&&◌, List, [], ◌∷◌}
+use Rattle.std.proofs.Common.{length, refl, ap, arith, sym, ◌∙◌, ◌⊎◌, inl, inr, min, fold, unsigned_abs, ◌/◌, ◌≢◌}
+use Rattle.std.proofs.Common.{nat_le}
 use Rattle.std.specs.List.{AllByRecursion, list_all}
 use Rattle.std.proofs.lemmas.Int.{ints}
 use Rattle.std.proofs.lemmas.Bool.Decides.{nat_tests}
 use Rattle.std.proofs.Math.Nat.{le-div_iff_mul-le}
+use Rattle.std.proofs.lemmas.Bool.{and_parts}
 use Rattle.lattice_theory.specs.Vectors.{Vector, conforms, ◌⊑◌, is_between, is_zero, scale, IsGreatestMultiple}
 use Rattle.lattice_theory.specs.Lattices.{multiples, least_of, greatest_multiple}
 
@@ -35,11 +38,18 @@ pub multiples-below : (e v : Vector) (m : ℕ) → AllByRecursion (λ b. unsigne
 multiples-below [] v m small = tt
 multiples-below (a ∷ e) [] m small = tt
 multiples-below (pos zero ∷ e) (b ∷ v) m small = multiples-below e v m small.1
-multiples-below (pos (suc n) ∷ e) (b ∷ v) m small = (quotient-below (unsigned_abs b) n m small.0, multiples-below e v m small.1)
-multiples-below (negsuc n ∷ e) (b ∷ v) m small = (quotient-below (unsigned_abs b) n m small.0, multiples-below e v m small.1)
+multiples-below (pos (suc n) ∷ e) (b ∷ v) m small = (
+  quotient-below (unsigned_abs b) n m small.0,
+  multiples-below e v m small.1,
+)
+multiples-below (negsuc n ∷ e) (b ∷ v) m small = (
+  quotient-below (unsigned_abs b) n m small.0,
+  multiples-below e v m small.1,
+)
 
 -- the least of numbers that are at most m, taken from m on, is the least of them
-pub fold-min-least : (m : ℕ) (xs : List ℕ) → 0 < length xs → AllByRecursion (λ x. x ≤ m) xs → fold min m xs ≡ least_of xs
+pub fold-min-least : (m : ℕ) (xs : List ℕ) → 0 < length xs → AllByRecursion (λ x. x ≤ m) xs →
+    fold min m xs ≡ least_of xs
 fold-min-least m [] some below = absurd (omega arith)
 fold-min-least m (x ∷ xs) some below = let first : x ≤ m = below.0 in ap (λ a. fold min a xs) (omega arith)
 
@@ -59,10 +69,6 @@ is_between-times k (negsuc a) (pos zero) nonzero below = grind (arith, nat_tests
 is_between-times k (negsuc a) (pos (suc b)) nonzero below = grind (arith, nat_tests)
 is_between-times k (negsuc a) (negsuc b) nonzero below = grind (arith, nat_tests, times-fits k a (suc b))
 
-both-true : (p q : Bool) → (p && q) ≡ true → (p ≡ true) × (q ≡ true)
-both-true true q both = (refl, both)
-both-true false q both = absurd cc
-
 -- k times e is conformally below v exactly where k is at most each quotient
 conforms-scale : (k : ℕ) (e v : Vector) → conforms e v ≡ true →
     conforms (scale (pos k) e) v ≡ list_all (λ x. nat_le k x) (multiples e v)
@@ -70,17 +76,19 @@ conforms-scale k [] [] below = refl
 conforms-scale k [] (b ∷ v) below = absurd cc
 conforms-scale k (a ∷ e) [] below = absurd cc
 conforms-scale k (pos zero ∷ e) (b ∷ v) below =
-    let parts : (is_between (pos zero) b ≡ true) × (conforms e v ≡ true) = both-true _ _ below in
+    let parts : (is_between (pos zero) b ≡ true) × (conforms e v ≡ true) = and_parts _ _ below in
     let here : is_between (pos k *ℤ pos zero) b ≡ true = grind (arith, nat_tests, ints) in
     ap (λ t. t && conforms (scale (pos k) e) v) here ∙ conforms-scale k e v parts.1
 conforms-scale k (pos (suc n) ∷ e) (b ∷ v) below =
-    let parts = both-true _ _ below in
+    let parts = and_parts _ _ below in
     let here = is_between-times k (pos (suc n)) b (λ z. absurd (cc)) parts.0 in
-    ap (λ t. t && conforms (scale (pos k) e) v) here ∙ ap (λ t. nat_le k (unsigned_abs b / suc n) && t) (conforms-scale k e v parts.1)
+    ap (λ t. t && conforms (scale (pos k) e) v) here ∙ ap (λ t. nat_le k (unsigned_abs b / suc n) && t)
+    (conforms-scale k e v parts.1)
 conforms-scale k (negsuc n ∷ e) (b ∷ v) below =
-    let parts = both-true _ _ below in
+    let parts = and_parts _ _ below in
     let here = is_between-times k (negsuc n) b (λ z. absurd (cc)) parts.0 in
-    ap (λ t. t && conforms (scale (pos k) e) v) here ∙ ap (λ t. nat_le k (unsigned_abs b / suc n) && t) (conforms-scale k e v parts.1)
+    ap (λ t. t && conforms (scale (pos k) e) v) here ∙ ap (λ t. nat_le k (unsigned_abs b / suc n) && t)
+    (conforms-scale k e v parts.1)
 
 -- a number is at most the least, from m on, exactly where it is at most m and each number
 fold-min-above : (k m : ℕ) (xs : List ℕ) → nat_le k (fold min m xs) ≡ (nat_le k m && list_all (λ x. nat_le k x) xs)

@@ -1,10 +1,9 @@
 -- Laws of the words that hold the signs of a vector: those of a vector that lies below another fit.
-use Rattle.std.proofs.Common.{◌≡◌, ℕ, zero, ◌+◌, ◌%◌, ◌^◌, ◌<◌, ◌≤◌, min, ℤ, pos, negsuc, neg_ℤ, suc, Bool, true}
-use Rattle.std.proofs.Common.{false, ◌&&◌, [], ◌∷◌, bit_and, bit_or, length, drop, get_or, refl, ap, arith, sym, ◌∙◌}
-use Rattle.std.proofs.Common.{subst, eq-eqb}
+use Rattle.std.proofs.Common.{◌≡◌, ℕ, zero, ◌+◌, ◌%◌, ◌^◌, ◌<◌, ◌≤◌, min, ℤ, pos, negsuc, neg_ℤ, suc, Bool, true, false}
+use Rattle.std.proofs.Common.{[], ◌∷◌, bit_and, bit_or, length, drop, get_or, refl, ap, arith, sym, ◌∙◌, subst, eq-eqb}
 use Rattle.std.specs.Int.{bit_at}
 use Rattle.std.proofs.lemmas.Int.{ints}
-use Rattle.std.proofs.lemmas.Bool.{and_parts, false_from_ne_true, true≢false}
+use Rattle.std.proofs.lemmas.Bool.{and_parts, false_from_ne_true, true≢false, and_from}
 use Rattle.std.proofs.lemmas.Bool.Decides.{nat_tests}
 use Rattle.std.proofs.Math.Seq.{drop-cons}
 use Rattle.std.proofs.lemmas.Nat.{or_comm}
@@ -55,9 +54,6 @@ module _ (test : ℤ → Bool) (passes : (a b : ℤ) → is_between a b ≡ true
 
 -- ---- a vector that lies below
 
-both : {s t : Bool} → s ≡ true → t ≡ true → (s && t) ≡ true
-both {s} {t} e f = ap (λ b. b && t) e ∙ f
-
 -- what would show that a false test passes is false
 pub unless : (b t : Bool) → (b ≡ true → t ≡ true) → t ≡ false → b ≡ false
 unless b t shows fails = false_from_ne_true b (λ e. true≢false (sym (shows e) ∙ fails))
@@ -65,7 +61,7 @@ unless b t shows fails = false_from_ne_true b (λ e. true≢false (sym (shows e)
 below_fits : (v z : Vector) → v ⊑ z → fits (signs_of v) (signs_of z) ≡ true
 below_fits v z low =
     let none : IsPartOf 0 0 = λ i. omega arith in
-    both (within_part _ _ (marked_part is_positive positive_part v z 0 0 0 low none))
+    and_from _ _ (within_part _ _ (marked_part is_positive positive_part v z 0 0 0 low none))
     (within_part _ _ (marked_part is_negative negative_part v z 0 0 0 low none))
 
 -- a vector whose signs do not fit does not lie below
@@ -97,7 +93,7 @@ signs_turned v = λ i. record {
 }
 
 fits_exchanged : (a b : Signs) → fits (exchanged a) b ≡ true → fits a (exchanged b) ≡ true
-fits_exchanged a b h = let p = and_parts (is_within a.down b.up) (is_within a.up b.down) h in both p.1 p.0
+fits_exchanged a b h = let p = and_parts (is_within a.down b.up) (is_within a.up b.down) h in and_from _ _ p.1 p.0
 
 -- a vector whose signs do not fit those of the opposite does not lie below with the other sign
 pub turned_apart : (v z : Vector) → fits (signs_of v) (exchanged (signs_of z)) ≡ false → conforms (opposite v) z ≡ false

@@ -1,5 +1,6 @@
 -- Vectors that agree and vectors that clash: sums of parts of the former, norms of the latter.
-use Rattle.std.proofs.Common.{◌≡◌, ℕ, zero, suc, ◌+◌, ◌<◌, ◌+ℤ◌, Bool, true, false, ◌&&◌, ◌∷◌, length, refl, ap, arith, ◌∙◌, [], ℤ}
+use Rattle.std.proofs.Common.{◌≡◌, ℕ, zero, suc, ◌+◌, ◌<◌, ◌+ℤ◌, Bool, true, false, ◌&&◌, ◌∷◌, length, refl, ap, arith}
+use Rattle.std.proofs.Common.{◌∙◌, [], ℤ}
 use Rattle.lattice_theory.specs.Vectors.{Vector, norm1, add, zeros, ◌⊑◌, conforms, is_between}
 use Rattle.lattice_laws.proofs.Tests.{and_true}
 use Rattle.lattice_laws.proofs.Signs.{agrees, abs_sum, clash, agrees_zero, abs_clash, between_parts}

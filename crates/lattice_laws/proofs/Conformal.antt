@@ -1,14 +1,19 @@
 -- Vectors under the conformal order: an order, what is left over a vector below, norms and opposites.
-use Rattle.std.proofs.Common.{◌≡◌, ℕ, zero, suc, ◌+◌, ◌<◌, ◌≤◌, ℤ, pos, negsuc, ◌+ℤ◌, ◌-ℤ◌, neg_ℤ, unsigned_abs, Bool, true, false, ◌&&◌, ◌∷◌, ◌++◌, length, take, drop, refl, ap, arith, sym, ◌∙◌, ◌⊎◌, inl, inr, subst, get_or, []}
+use Rattle.std.proofs.Common.{◌≡◌, ℕ, zero, suc, ◌+◌, ◌<◌, ◌≤◌, ℤ, pos, negsuc, ◌+ℤ◌, ◌-ℤ◌, neg_ℤ, unsigned_abs, Bool}
+use Rattle.std.proofs.Common.{true, false, ◌&&◌, ◌∷◌, ◌++◌, length, take, drop, refl, ap, arith, sym, ◌∙◌, ◌⊎◌, inl}
+use Rattle.std.proofs.Common.{inr, subst, get_or, []}
 use Rattle.std.proofs.lemmas.List.{take-append-drop, take_all, take_more}
 use Rattle.std.proofs.lemmas.Int.{ints}
 use Rattle.std.proofs.lemmas.Bool.Decides.{nat_tests}
 use Rattle.std.proofs.lemmas.List.Sums.{sum_by-cons}
 use Rattle.std.specs.Ordering.{int_eq}
 use Rattle.lattice_theory.specs.Lists.{all_zip}
-use Rattle.lattice_theory.specs.Vectors.{Vector, ◌⊑◌, conforms, is_between, is_zero, leads_positive, norm1, add, sub, opposite}
+use Rattle.lattice_theory.specs.Vectors.{Vector, ◌⊑◌, conforms, is_between, is_zero, leads_positive, norm1, add, sub}
+use Rattle.lattice_theory.specs.Vectors.{opposite}
 use Rattle.lattice_laws.proofs.Tests.{and_true, true_or_false, not_both}
-use Rattle.lattice_laws.proofs.Signs.{between_refl, between_trans, between_antisym, between_opposite, between_turned, between_rest, between_sum, abs_split, abs_opposite, abs_sum, abs_agree, agrees, agrees_comm, agrees_opposites, agrees_own_opposite, agrees_parts}
+use Rattle.lattice_laws.proofs.Signs.{between_refl, between_trans, between_antisym, between_opposite, between_turned}
+use Rattle.lattice_laws.proofs.Signs.{between_rest, between_sum, abs_split, abs_opposite, abs_sum, abs_agree, agrees}
+use Rattle.lattice_laws.proofs.Signs.{agrees_comm, agrees_opposites, agrees_own_opposite, agrees_parts}
 
 -- ---- an order
 
@@ -239,7 +244,8 @@ conforms_turned [] [] = refl
 conforms_turned [] (b ∷ v) = refl
 conforms_turned (a ∷ u) [] = refl
 conforms_turned (a ∷ u) (b ∷ v) =
-    ap (λ t. t && conforms u (opposite v)) (between_turned a b) ∙ ap (λ t. is_between (neg_ℤ a) b && t) (conforms_turned u v)
+    ap (λ t. t && conforms u (opposite v)) (between_turned a b)
+    ∙ ap (λ t. is_between (neg_ℤ a) b && t) (conforms_turned u v)
 
 pub norm-opposite : (v : Vector) → norm1 (opposite v) ≡ norm1 v
 norm-opposite [] = refl
@@ -257,7 +263,8 @@ leads_either (pos zero ∷ v) h = leads_either v h
 leads_either (pos (suc n) ∷ v) h = inl refl
 leads_either (negsuc n ∷ v) h = inr refl
 
-pub leads_other : (v w : Vector) → w ≡ opposite v → is_zero v ≡ false → leads_positive v ≡ false → leads_positive w ≡ true
+pub leads_other : (v w : Vector) → w ≡ opposite v → is_zero v ≡ false → leads_positive v ≡ false →
+    leads_positive w ≡ true
 leads_other v w e n h = elim (leads_either v n) [
   | inl k ↦ absurd (not_both (leads_positive v) k h)
   | inr k ↦ ap leads_positive e ∙ k
@@ -272,7 +279,8 @@ leads_not_both (negsuc n ∷ v) h k = absurd (cc)
 pub leads_nonzero : (v : Vector) → leads_positive v ≡ true → is_zero v ≡ false
 leads_nonzero [] h = absurd (cc)
 leads_nonzero (pos zero ∷ v) h = leads_nonzero v h
-leads_nonzero (pos (suc n) ∷ v) h = let e : int_eq (pos (suc n)) (pos 0) ≡ false = grind (arith, nat_tests, ints) in ap (λ t. t && is_zero v) e
+leads_nonzero (pos (suc n) ∷ v) h = let e : int_eq (pos (suc n)) (pos 0) ≡ false = grind (arith, nat_tests, ints) in
+    ap (λ t. t && is_zero v) e
 leads_nonzero (negsuc n ∷ v) h = absurd (cc)
 
 -- ---- vectors that agree: neither has the other sign anywhere
@@ -291,7 +299,8 @@ agree_opposites [] [] = refl
 agree_opposites [] (b ∷ v) = refl
 agree_opposites (a ∷ u) [] = refl
 agree_opposites (a ∷ u) (b ∷ v) =
-    ap (λ t. t && agree (opposite u) (opposite v)) (agrees_opposites a b) ∙ ap (λ t. agrees a b && t) (agree_opposites u v)
+    ap (λ t. t && agree (opposite u) (opposite v)) (agrees_opposites a b)
+    ∙ ap (λ t. agrees a b && t) (agree_opposites u v)
 
 -- two parts of one vector agree
 pub agree_parts : (u v y : Vector) → u ⊑ y → v ⊑ y → agree u v ≡ true
@@ -331,7 +340,14 @@ below_sum (a ∷ u) (b ∷ v) h =
 pub norm_sum : (u v : Vector) → norm1 (add u v) ≤ norm1 u + norm1 v
 norm_sum [] v = omega arith
 norm_sum (a ∷ u) [] = omega arith
-norm_sum (a ∷ u) (b ∷ v) = omega (arith, norm1-cons a u, norm1-cons b v, norm1-cons (a +ℤ b) (add u v), abs_sum a b, norm_sum u v)
+norm_sum (a ∷ u) (b ∷ v) = omega (
+  arith,
+  norm1-cons a u,
+  norm1-cons b v,
+  norm1-cons (a +ℤ b) (add u v),
+  abs_sum a b,
+  norm_sum u v,
+)
 
 -- ---- vectors in two parts
 
@@ -361,7 +377,8 @@ between_entries k (a ∷ u) [] h = absurd (cc)
 between_entries zero (a ∷ u) (b ∷ v) h = (and_true (is_between a b) (conforms u v) h).0
 between_entries (suc k) (a ∷ u) (b ∷ v) h = between_entries k u v (and_true (is_between a b) (conforms u v) h).1
 
-pub entry-sub : (k : ℕ) (u v : Vector) → length u ≡ length v → get_or (sub u v) k (pos 0) ≡ get_or u k (pos 0) -ℤ get_or v k (pos 0)
+pub entry-sub : (k : ℕ) (u v : Vector) → length u ≡ length v →
+    get_or (sub u v) k (pos 0) ≡ get_or u k (pos 0) -ℤ get_or v k (pos 0)
 entry-sub k [] [] e = refl
 entry-sub k [] (b ∷ v) e = absurd (omega arith)
 entry-sub k (a ∷ u) [] e = absurd (omega arith)
@@ -385,7 +402,8 @@ pub conforms_by_last : (n : ℕ) (u v : Vector) → length u ≡ n + 1 → lengt
 conforms_by_last n u v e f h k =
     let one : (get_or u n (pos 0) ∷ []) ⊑ (get_or v n (pos 0) ∷ []) = ap (λ t. t && true) k in
     subst (λ w. w ⊑ v) (sym (last_apart n u e))
-    (subst (λ w. (take n u ++ get_or u n (pos 0) ∷ []) ⊑ w) (sym (last_apart n v f)) (conforms-append (take n u) (take n v) (get_or u n (pos 0) ∷ []) (get_or v n (pos 0) ∷ []) h one))
+    (subst (λ w. (take n u ++ get_or u n (pos 0) ∷ []) ⊑ w) (sym (last_apart n v f))
+    (conforms-append (take n u) (take n v) (get_or u n (pos 0) ∷ []) (get_or v n (pos 0) ∷ []) h one))
 
 -- ---- the entries behind the first ones
 

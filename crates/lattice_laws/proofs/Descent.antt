@@ -5,7 +5,8 @@
 -- A vector is taken in two parts whose cuts are below its own. Where the new entries of the parts agree, the
 -- lighter part's member serves. Where they clash, a member below one of the parts gives two parts whose new
 -- entries are smaller; where each part is a member itself, the vector is such a sum.
-use Rattle.std.proofs.Common.{◌≡◌, ℕ, zero, suc, ◌+◌, ◌<◌, ◌≤◌, ℤ, ◌-ℤ◌, refl, ap, arith, ◌⊎◌, inl, inr, unsigned_abs, subst}
+use Rattle.std.proofs.Common.{◌≡◌, ℕ, zero, suc, ◌+◌, ◌<◌, ◌≤◌, ℤ, ◌-ℤ◌, refl, ap, arith, ◌⊎◌, inl, inr, unsigned_abs}
+use Rattle.std.proofs.Common.{subst}
 use Rattle.std.proofs.lemmas.Int.{ints}
 use borrow.Author.Differences.{up, down}
 use Rattle.lattice_laws.proofs.Signs.{IsPart, clash, one_zero, abs_parts}
@@ -58,15 +59,53 @@ module _ {V : Type 0} (F : Stage V) where
 -- ---- numbers
 
 -- P and Q clash, A and D are parts of P that make it: A and what is left beside it are smaller
-drop_first : (P Q A D R Y : ℤ) → Q ≡ (Y -ℤ P) → D ≡ (P -ℤ A) → R ≡ (Y -ℤ A) → IsPart A P → IsPart D P → 0 < clash P Q → 0 < unsigned_abs D →
+drop_first : (P Q A D R Y : ℤ) → Q ≡ (Y -ℤ P) → D ≡ (P -ℤ A) → R ≡ (Y -ℤ A) → IsPart A P → IsPart D P → 0 < clash P Q →
+    0 < unsigned_abs D →
     unsigned_abs A + unsigned_abs R < unsigned_abs P + unsigned_abs Q
 drop_first P Q A D R Y q d r ap dp c n =
-    omega (arith, ints, q, d, r, ap.ups, ap.downs, dp.ups, dp.downs, c, n, one_zero P, one_zero Q, one_zero A, one_zero D, one_zero R, abs_parts P, abs_parts Q, abs_parts A, abs_parts D, abs_parts R)
+    omega (
+      arith,
+      ints,
+      q,
+      d,
+      r,
+      ap.ups,
+      ap.downs,
+      dp.ups,
+      dp.downs,
+      c,
+      n,
+      one_zero P,
+      one_zero Q,
+      one_zero A,
+      one_zero D,
+      one_zero R,
+      abs_parts P,
+      abs_parts Q,
+      abs_parts A,
+      abs_parts D,
+      abs_parts R,
+    )
 
 drop_second : (P Q D S Y : ℤ) → Q ≡ (Y -ℤ P) → S ≡ (Y -ℤ D) → 0 < clash P Q → unsigned_abs D ≡ 0 →
     unsigned_abs D + unsigned_abs S < unsigned_abs P + unsigned_abs Q
 drop_second P Q D S Y q s c n =
-    omega (arith, ints, q, s, c, n, one_zero P, one_zero Q, one_zero D, one_zero S, abs_parts P, abs_parts Q, abs_parts D, abs_parts S)
+    omega (
+      arith,
+      ints,
+      q,
+      s,
+      c,
+      n,
+      one_zero P,
+      one_zero Q,
+      one_zero D,
+      one_zero S,
+      abs_parts P,
+      abs_parts Q,
+      abs_parts D,
+      abs_parts S,
+    )
 
 -- ---- the step
 
@@ -85,12 +124,18 @@ descent F p y e cut proper nonzero other below c =
         proper = λ s. absurd (omega (arith, small, F.not_smaller e p (F.full_cut e p below), ap F.size s));
         cut = ecut;
         lighter = drop_first (F.new p) (F.new (F.sub y p)) (F.new e) (F.new d) (F.new (F.sub y e)) (F.new y)
-            (F.new_sub p y cut) (F.new_sub e p (F.full_cut e p below)) (F.new_sub e y ecut) (F.full_new e p below) (F.full_new d p (F.full_rest e p below)) c n;
+            (F.new_sub p y cut) (F.new_sub e p (F.full_cut e p below)) (F.new_sub e y ecut) (F.full_new e p below)
+            (F.full_new d p (F.full_rest e p below)) c n;
       }
       | inl z ↦ record {
         part = d;
         nonzero = F.rest_nonzero e p (F.full_cut e p below) other;
-        proper = λ s. absurd (omega (arith, small, F.not_smaller d p (F.rest_cut e p (F.full_cut e p below)), ap F.size s));
+        proper = λ s. absurd (omega (
+          arith,
+          small,
+          F.not_smaller d p (F.rest_cut e p (F.full_cut e p below)),
+          ap F.size s,
+        ));
         cut = dcut;
         lighter = drop_second (F.new p) (F.new (F.sub y p)) (F.new d) (F.new (F.sub y d)) (F.new y)
             (F.new_sub p y cut) (F.new_sub d y dcut) c z;
@@ -105,10 +150,13 @@ record Given {V : Type 0} (F : Stage V) (L : V → Type 0) (y : V) : Type 0 wher
   pub pairs : (p : V) → L p → L (F.sub y p) → F.Cut p y → 0 < clash (F.new p) (F.new (F.sub y p)) → Below F L y
 
 weight_turned : {V : Type 0} (F : Stage V) (p y : V) → F.Cut p y → weight F (F.sub y p) y ≡ weight F p y
-weight_turned F p y cut = let e : F.new (F.sub y (F.sub y p)) ≡ F.new p = ap F.new (F.back p y cut) in omega (arith, ap unsigned_abs e)
+weight_turned F p y cut = let e : F.new (F.sub y (F.sub y p)) ≡ F.new p = ap F.new (F.back p y cut) in
+    omega (arith, ap unsigned_abs e)
 
-clash_turned : {V : Type 0} (F : Stage V) (p y : V) → F.Cut p y → clash (F.new p) (F.new (F.sub y p)) ≡ clash (F.new (F.sub y p)) (F.new (F.sub y (F.sub y p)))
-clash_turned F p y cut = let e : F.new (F.sub y (F.sub y p)) ≡ F.new p = ap F.new (F.back p y cut) in omega (arith, ap up e, ap down e)
+clash_turned : {V : Type 0} (F : Stage V) (p y : V) → F.Cut p y →
+    clash (F.new p) (F.new (F.sub y p)) ≡ clash (F.new (F.sub y p)) (F.new (F.sub y (F.sub y p)))
+clash_turned F p y cut = let e : F.new (F.sub y (F.sub y p)) ≡ F.new p = ap F.new (F.back p y cut) in
+    omega (arith, ap up e, ap down e)
 
 -- a vector that has a proper part has a member below it, by the weight of the part
 inner : {V : Type 0} (F : Stage V) (L : V → Type 0) (y : V) → Given F L y →
@@ -129,8 +177,14 @@ inner F L y g (suc k) p nonzero proper cut fits =
                 inner F L y g k l.part l.nonzero l.proper l.cut (omega (arith, fits, l.lighter))
             | inl mp ↦ elim (F.same n.0 q) [
               | inr other ↦
-                  let l = descent F q y n.0 qcut qproper (g.nonzero n.0 n.1) other n.2 (omega (arith, c, clash_turned F p y cut)) in
-                  inner F L y g k l.part l.nonzero l.proper l.cut (omega (arith, fits, l.lighter, weight_turned F p y cut))
+                  let l = descent F q y n.0 qcut qproper (g.nonzero n.0 n.1) other n.2
+                  (omega (arith, c, clash_turned F p y cut)) in
+                  inner F L y g k l.part l.nonzero l.proper l.cut (omega (
+                    arith,
+                    fits,
+                    l.lighter,
+                    weight_turned F p y cut,
+                  ))
               | inl nq ↦ g.pairs p (subst L mp m.1) (subst L nq n.1) cut c
             ]
           ]
@@ -140,14 +194,16 @@ inner F L y g (suc k) p nonzero proper cut fits =
 pub descended : {V : Type 0} (F : Stage V) (L : V → Type 0) (bound : ℕ) →
     ((e : V) → L e → F.NonZero e) →
     ((y : V) → F.NonZero y → (e : V) × L e × F.Cut e y) →
-    ((y p : V) → F.size y < bound → L p → L (F.sub y p) → F.Cut p y → 0 < clash (F.new p) (F.new (F.sub y p)) → Below F L y) →
+    ((y p : V) → F.size y < bound → L p → L (F.sub y p) → F.Cut p y → 0 < clash (F.new p) (F.new (F.sub y p)) →
+    Below F L y) →
     (n : ℕ) (y : V) → F.NonZero y → F.size y < n → F.size y < bound → Below F L y
 descended F L bound nonzero covers pairs zero y ny fits small = absurd (omega (arith, fits))
 descended F L bound nonzero covers pairs (suc n) y ny fits small =
     let m = covers y ny in
     let g : Given F L y = record {
       nonzero = nonzero;
-      smaller = λ z nz lt. descended F L bound nonzero covers pairs n z nz (omega (arith, lt, fits)) (omega (arith, lt, small));
+      smaller = λ z nz lt. descended F L bound nonzero covers pairs n z nz (omega (arith, lt, fits))
+          (omega (arith, lt, small));
       pairs = λ p lp lq cut c. pairs y p small lp lq cut c;
     } in
     elim (F.same m.0 y) [

@@ -1,18 +1,23 @@
 -- The elements of a lattice: they are known by their first parts, and the lattice is closed; one more row.
-use Rattle.std.proofs.Common.{◌≡◌, ℕ, ◌+◌, false, List, ◌++◌, length, map, take, ap, arith, sym, ◌∙◌, inl, inr, subst, length-append, length-take, append_assoc, zero, suc, pos}
+use Rattle.std.proofs.Common.{◌≡◌, ℕ, ◌+◌, false, List, ◌++◌, length, map, take, drop, ap, arith, sym, ◌∙◌, inl, inr}
+use Rattle.std.proofs.Common.{subst, length-append, length-take, append_assoc, zero, suc, pos}
 use Rattle.std.proofs.lemmas.List.{take-append-drop, take_at, drop_at, map-append, take-take}
 use Rattle.lattice_theory.specs.Vectors.{Vector, ◌⊑◌, is_zero, add, sub, opposite, zeros, dot, scale}
 use Rattle.lattice_theory.specs.Matrices.{Matrix, product, element}
 use Rattle.lattice_theory.specs.Lattices.{InLattice, IsMinimal}
 use Rattle.lattice_theory.specs.BasisLimits.{IsBasisElement}
 use Rattle.lattice_laws.proofs.Tests.{true_or_false, not_both}
-use Rattle.lattice_laws.proofs.Conformal.{conforms-take, conforms-opposite, opposite-opposite, opposite_nonzero, opposite-append, length-opposite, length-add, sub-opposite, nonzero_by_take, leads-append}
-use Rattle.lattice_laws.proofs.Products.{rows-add, rows-opposite, rows-zeros, length-rows, add-append, zeros_is, zero-zeros, zeros-append, length-zeros}
+use Rattle.lattice_laws.proofs.Conformal.{conforms-take, conforms-opposite, opposite-opposite, opposite_nonzero}
+use Rattle.lattice_laws.proofs.Conformal.{opposite-append, length-opposite, length-add, sub-opposite, nonzero_by_take}
+use Rattle.lattice_laws.proofs.Conformal.{leads-append}
+use Rattle.lattice_laws.proofs.Products.{rows-add, rows-opposite, rows-zeros, length-rows, add-append, zeros_is}
+use Rattle.lattice_laws.proofs.Products.{zero-zeros, zeros-append, length-zeros}
 use Rattle.lattice_laws.proofs.Multiples.{scale_zero, scale_suc}
 
 module _ (m : Matrix) where
   pub element-add : (u v : Vector) → length u ≡ length v → element m (add u v) ≡ add (element m u) (element m v)
-  element-add u v e = ap (λ t. add u v ++ t) (rows-add m.rows u v e) ∙ sym (add-append u v (product m u) (product m v) e)
+  element-add u v e = ap (λ t. add u v ++ t) (rows-add m.rows u v e)
+      ∙ sym (add-append u v (product m u) (product m v) e)
 
   pub length-element : (v : Vector) → length v ≡ m.cols → length (element m v) ≡ m.cols + length m.rows
   length-element v l = omega (arith, length-append v (product m v), length-rows m.rows v)
@@ -40,12 +45,14 @@ module _ (m : Matrix) where
       let same : length (take m.cols y) ≡ length (take m.cols z) = first_size y h ∙ sym (first_size z k) in
       subst (InLattice m)
       (element-add (take m.cols y) (take m.cols z) same ∙ (λ i. add (sym (is_element y h) i) (sym (is_element z k) i)))
-      (element_in (add (take m.cols y) (take m.cols z)) (length-add (take m.cols y) (take m.cols z) m.cols (first_size y h) (first_size z k)))
+      (element_in (add (take m.cols y) (take m.cols z)) (length-add (take m.cols y) (take m.cols z) m.cols
+      (first_size y h) (first_size z k)))
 
   pub closed_opposite : (z : Vector) → InLattice m z → InLattice m (opposite z)
   closed_opposite z h =
       subst (InLattice m)
-      (ap (λ t. opposite (take m.cols z) ++ t) (rows-opposite m.rows (take m.cols z)) ∙ sym (opposite-append (take m.cols z) (product m (take m.cols z)))
+      (ap (λ t. opposite (take m.cols z) ++ t) (rows-opposite m.rows (take m.cols z))
+      ∙ sym (opposite-append (take m.cols z) (product m (take m.cols z)))
       ∙ ap opposite (sym (is_element z h)))
       (element_in (opposite (take m.cols z)) (length-opposite (take m.cols z) ∙ first_size z h))
 
@@ -58,8 +65,10 @@ module _ (m : Matrix) where
     member = closed_opposite z h.member;
     nonzero = opposite_nonzero z h.nonzero;
     least = λ u i n b.
-        let back : opposite u ⊑ z = subst (λ t. opposite u ⊑ t) (opposite-opposite z) (conforms-opposite u (opposite z) b) in
-        sym (opposite-opposite u) ∙ ap opposite (h.least (opposite u) (closed_opposite u i) (opposite_nonzero u n) back);
+        let back : opposite u ⊑ z = subst (λ t. opposite u ⊑ t) (opposite-opposite z)
+        (conforms-opposite u (opposite z) b) in
+        sym (opposite-opposite u) ∙ ap opposite (h.least (opposite u) (closed_opposite u i) (opposite_nonzero u n)
+        back);
   }
 
   -- an element that is not 0 has a first part that is not 0
@@ -69,7 +78,8 @@ module _ (m : Matrix) where
     | inl e ↦
         let v : take m.cols z ≡ zeros m.cols = zeros_is (take m.cols z) e ∙ ap zeros (first_size z h) in
         let all : z ≡ zeros (m.cols + length m.rows) =
-        is_element z h ∙ ap (element m) v ∙ ap (λ t. zeros m.cols ++ t) (rows-zeros m.rows m.cols) ∙ zeros-append m.cols (length m.rows) in
+        is_element z h ∙ ap (element m) v ∙ ap (λ t. zeros m.cols ++ t) (rows-zeros m.rows m.cols)
+        ∙ zeros-append m.cols (length m.rows) in
         absurd (not_both (is_zero z) (ap is_zero all ∙ zero-zeros (m.cols + length m.rows)) n)
   ]
 
@@ -92,6 +102,13 @@ closed_times m (suc k) z inside =
 abbrev pub with_rows : Matrix → List Vector → Matrix
 with_rows m more = record { cols = m.cols; rows = m.rows ++ more }
 
+-- the matrix with its first so many rows alone
+abbrev pub first_rows : ℕ → Matrix → Matrix
+first_rows n m = record { cols = m.cols; rows = take n m.rows }
+
+pub rows_apart : (n : ℕ) (m : Matrix) → with_rows (first_rows n m) (drop n m.rows) ≡ m
+rows_apart n m = ap (λ rows. record { cols = m.cols; rows = rows }) (take-append-drop n m.rows)
+
 -- an element with its products with the further rows behind it
 abbrev pub lifted : Matrix → List Vector → Vector → Vector
 lifted m more z = z ++ map (λ row. dot row (take m.cols z)) more
@@ -111,7 +128,8 @@ module _ (m : Matrix) (more : List Vector) where
       ∙ ap (λ t. take m.cols z ++ t) (sym (map-append (λ row. dot row (take m.cols z)) m.rows more))
 
   pub lifted_in : (z : Vector) → InLattice m z → InLattice (with_rows m more) (lifted m more z)
-  lifted_in z h = subst (InLattice (with_rows m more)) (sym (lifted_is z h)) (element_in (with_rows m more) (take m.cols z) (first_size m z h))
+  lifted_in z h = subst (InLattice (with_rows m more)) (sym (lifted_is z h))
+      (element_in (with_rows m more) (take m.cols z) (first_size m z h))
 
   -- the entries of an element before the further ones
   pub cut-lifted : (z : Vector) → InLattice m z → take (width m) (lifted m more z) ≡ z
@@ -122,8 +140,10 @@ module _ (m : Matrix) (more : List Vector) where
       let v = take m.cols y in
       let rest = map (λ row. dot row v) more in
       let whole : y ≡ element m v ++ rest =
-      is_element (with_rows m more) y h ∙ ap (λ t. v ++ t) (map-append (λ row. dot row v) m.rows more) ∙ sym (append_assoc v (product m v) rest) in
-      ap (take (width m)) whole ∙ take_at (element m v) rest (width m) (length-element m v (first_size (with_rows m more) y h))
+      is_element (with_rows m more) y h ∙ ap (λ t. v ++ t) (map-append (λ row. dot row v) m.rows more)
+      ∙ sym (append_assoc v (product m v) rest) in
+      ap (take (width m)) whole ∙ take_at (element m v) rest (width m)
+      (length-element m v (first_size (with_rows m more) y h))
 
   pub cut_in : (y : Vector) → InLattice (with_rows m more) y → InLattice m (take (width m) y)
   cut_in y h = subst (InLattice m) (sym (cut_is y h)) (element_in m (take m.cols y) (first_size (with_rows m more) y h))
@@ -137,7 +157,8 @@ module _ (m : Matrix) (more : List Vector) where
       ∙ ap (element (with_rows m more)) (sym (first-cut y))
       ∙ sym (lifted_is (take (width m) y) (cut_in y h))
 
-  pub cut_nonzero : (y : Vector) → InLattice (with_rows m more) y → is_zero y ≡ false → is_zero (take (width m) y) ≡ false
+  pub cut_nonzero : (y : Vector) → InLattice (with_rows m more) y → is_zero y ≡ false →
+      is_zero (take (width m) y) ≡ false
   cut_nonzero y h n =
       nonzero_by_take m.cols (take (width m) y) (ap is_zero (first-cut y) ∙ first_nonzero (with_rows m more) y h n)
 
@@ -147,7 +168,8 @@ module _ (m : Matrix) (more : List Vector) where
     member = lifted_in z h.member;
     nonzero = nonzero_by_take (width m) (lifted m more z) (ap is_zero (cut-lifted z h.member) ∙ h.nonzero);
     least = λ y i n b.
-        let cut : take (width m) y ⊑ z = subst (λ t. take (width m) y ⊑ t) (cut-lifted z h.member) (conforms-take (width m) y (lifted m more z) b) in
+        let cut : take (width m) y ⊑ z = subst (λ t. take (width m) y ⊑ t) (cut-lifted z h.member)
+        (conforms-take (width m) y (lifted m more z) b) in
         is_lifted y i ∙ ap (lifted m more) (h.least (take (width m) y) (cut_in y i) (cut_nonzero y i n) cut);
   }
 

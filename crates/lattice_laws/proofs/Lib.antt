@@ -1,11 +1,13 @@
 pub mod Tests
 pub mod Members
+pub mod Places
 pub mod Signs
 pub mod Conformal
 pub mod Products
 pub mod Sums
 pub mod Agreement
 pub mod VectorLists
+pub mod Narrow
 pub mod Multiples
 pub mod Elements
 pub mod Rising

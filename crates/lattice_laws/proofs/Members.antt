@@ -1,12 +1,13 @@
 -- The members of a list: its head and those of its tail, what every pair of places has, what each member has and
 -- passes, and the members of a mapped list and of a filtered one.
-use Rattle.std.proofs.Common.{◌≡◌, ℕ, zero, suc, ◌≤◌, Bool, true, false, cond, List, ◌∷◌, get_or, map, refl, ap, arith, ◌∙◌, Contains, ◌⊎◌, inl, inr, subst, sym, []}
-use Rattle.std.specs.List.{AllPairs, AllByRecursion, list_all, filter}
-use Rattle.std.proofs.lemmas.Bool.{cases_order, and_from}
+use Rattle.std.proofs.Common.{◌≡◌, ℕ, zero, suc, ◌≤◌, Bool, true, false, cond, List, ◌∷◌, ◌++◌, max, get_or, map, refl}
+use Rattle.std.proofs.Common.{ap, arith, ◌∙◌, Contains, ◌⊎◌, inl, inr, subst, sym, []}
+use Rattle.std.specs.List.{AllPairs, AllByRecursion, list_all, filter, list_any}
+use Rattle.std.proofs.lemmas.Bool.{cases_order, and_from, or_left, or_right, or_cases}
 use Rattle.std.proofs.lemmas.List.{get_or_read}
 use Rattle.lattice_theory.specs.Lists.{greatest}
-use Rattle.lattice_theory.specs.Vectors.{Vector}
-use Rattle.lattice_laws.proofs.Tests.{and_true, not_both}
+use Rattle.lattice_theory.specs.Vectors.{Vector, same, is_listed}
+use Rattle.lattice_laws.proofs.Tests.{and_true, not_both, same_true, same_refl}
 
 module _ {X : Type 0} where
   -- a member of a list is its head or a member of its tail
@@ -63,6 +64,31 @@ list_all_of test (x ∷ xs) passes =
     and_from (test x) (list_all test xs) (passes x (contains_head x xs))
     (list_all_of test xs (λ y c. passes y (contains_tail x xs y c)))
 
+module _ {X : Type 0} (test : X → Bool) where
+  -- a test that some member passes
+  pub list_any_of : (xs : List X) (x : X) → Contains xs x → test x ≡ true → list_any test xs ≡ true
+  list_any_of [] x (k, low, e) passes = absurd (omega arith)
+  list_any_of (y ∷ xs) x c passes = elim (contains_cases y xs x c) [
+    | inl same ↦ or_left (test y) (list_any test xs) (ap test same ∙ passes)
+    | inr d ↦ or_right (test y) (list_any test xs) (list_any_of xs x d passes)
+  ]
+
+  pub list_any_gives : (xs : List X) → list_any test xs ≡ true → (x : X) × Contains xs x × (test x ≡ true)
+  list_any_gives [] any = absurd (cc)
+  list_any_gives (x ∷ xs) any = elim (or_cases (test x) (list_any test xs) any) [
+    | inl here ↦ (x, contains_head x xs, here)
+    | inr behind ↦ let r = list_any_gives xs behind in (r.0, contains_tail x xs r.0 r.1, r.2)
+  ]
+
+-- a listed vector is a member
+pub listed_member : (vs : List Vector) (v : Vector) → is_listed vs v ≡ true → Contains vs v
+listed_member vs v listed =
+    let r = list_any_gives (λ u. same u v) vs listed in
+    subst (Contains vs) (same_true r.0 v r.2) r.1
+
+pub member_listed : (vs : List Vector) (v : Vector) → Contains vs v → is_listed vs v ≡ true
+member_listed vs v c = list_any_of (λ u. same u v) vs v c (same_refl v)
+
 -- ---- members of a mapped list and of a filtered one
 
 -- the value of a member is a value
@@ -116,3 +142,7 @@ at_most_greatest f (y ∷ xs) x c = elim (contains_cases y xs x c) [
   | inl e ↦ omega (arith, ap f e)
   | inr d ↦ omega (arith, at_most_greatest f xs x d)
 ]
+
+pub greatest-append : (xs ys : List ℕ) → greatest (xs ++ ys) ≡ max (greatest xs) (greatest ys)
+greatest-append [] ys = omega arith
+greatest-append (x ∷ xs) ys = omega (arith, greatest-append xs ys)

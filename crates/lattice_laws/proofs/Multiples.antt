@@ -1,11 +1,13 @@
 -- Multiples of vectors: as sums, of sums, their norms and products, and the greatest one below a vector.
-use Rattle.std.proofs.Common.{◌≡◌, ℕ, zero, suc, ◌*◌, ◌≤◌, ◌/◌, ℤ, pos, negsuc, ◌+ℤ◌, ◌*ℤ◌, neg_ℤ, unsigned_abs, true, ◌&&◌, min, fold, List, ◌∷◌, ◌++◌, length, map, refl, ap, arith, sym, ◌∙◌, [], false}
+use Rattle.std.proofs.Common.{◌≡◌, ℕ, zero, suc, ◌*◌, ◌≤◌, ◌/◌, ℤ, pos, negsuc, ◌+ℤ◌, ◌*ℤ◌, neg_ℤ, unsigned_abs, true}
+use Rattle.std.proofs.Common.{◌&&◌, min, fold, List, ◌∷◌, ◌++◌, length, map, refl, ap, arith, sym, ◌∙◌, [], false}
 use Rattle.std.specs.List.{AllByRecursion}
 use Rattle.std.proofs.lemmas.Int.{ints, unsigned_abs-mul}
 use Rattle.std.proofs.lemmas.Bool.Decides.{nat_tests}
 use Rattle.std.proofs.Math.Nat.{le-div_iff_mul-le, mul-le-mul_right}
 use Rattle.std.proofs.Math.IntN.{zero-*ℤ, *ℤ-zero, suc_ℤ-*ℤ, *ℤ_comm, *ℤ-negsuc}
-use Rattle.lattice_theory.specs.Vectors.{Vector, ◌⊑◌, conforms, is_between, norm1, add, scale, opposite, zeros, dot, is_zero}
+use Rattle.lattice_theory.specs.Vectors.{Vector, ◌⊑◌, conforms, is_between, norm1, add, scale, opposite, zeros, dot}
+use Rattle.lattice_theory.specs.Vectors.{is_zero}
 use Rattle.lattice_theory.specs.Lattices.{multiples, least_of, greatest_multiple}
 use Rattle.lattice_laws.proofs.Tests.{and_true}
 use Rattle.lattice_laws.proofs.Products.{times_sum, times_opposite}

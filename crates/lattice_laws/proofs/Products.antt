@@ -1,5 +1,6 @@
 -- Products of rows and vectors are linear in the vector.
-use Rattle.std.proofs.Common.{sym, ◌≡◌, ℕ, zero, suc, ◌+◌, ℤ, pos, negsuc, ◌+ℤ◌, ◌*ℤ◌, neg_ℤ, true, List, ◌∷◌, ◌++◌, length, map, refl, ap, arith, ◌∙◌, []}
+use Rattle.std.proofs.Common.{sym, ◌≡◌, ℕ, zero, suc, ◌+◌, ℤ, pos, negsuc, ◌+ℤ◌, ◌*ℤ◌, neg_ℤ, true, List, ◌∷◌, ◌++◌}
+use Rattle.std.proofs.Common.{length, map, refl, ap, arith, ◌∙◌, []}
 use Rattle.std.proofs.lemmas.Int.{ints}
 use Rattle.std.proofs.Math.IntN.{zero-*ℤ, *ℤ-zero, suc_ℤ-*ℤ, pred_ℤ-*ℤ, +ℤ_invr}
 use Rattle.std.proofs.lemmas.List.{length-replicate}
@@ -13,9 +14,25 @@ times_sum (pos zero) b c = omega (arith, ints, zero-*ℤ (b +ℤ c), zero-*ℤ b
 times_sum (pos (suc n)) b c =
     omega (arith, ints, suc_ℤ-*ℤ (pos n) (b +ℤ c), suc_ℤ-*ℤ (pos n) b, suc_ℤ-*ℤ (pos n) c, times_sum (pos n) b c)
 times_sum (negsuc zero) b c =
-    omega (arith, ints, pred_ℤ-*ℤ (pos zero) (b +ℤ c), pred_ℤ-*ℤ (pos zero) b, pred_ℤ-*ℤ (pos zero) c, zero-*ℤ (b +ℤ c), zero-*ℤ b, zero-*ℤ c)
+    omega (
+      arith,
+      ints,
+      pred_ℤ-*ℤ (pos zero) (b +ℤ c),
+      pred_ℤ-*ℤ (pos zero) b,
+      pred_ℤ-*ℤ (pos zero) c,
+      zero-*ℤ (b +ℤ c),
+      zero-*ℤ b,
+      zero-*ℤ c,
+    )
 times_sum (negsuc (suc n)) b c =
-    omega (arith, ints, pred_ℤ-*ℤ (negsuc n) (b +ℤ c), pred_ℤ-*ℤ (negsuc n) b, pred_ℤ-*ℤ (negsuc n) c, times_sum (negsuc n) b c)
+    omega (
+      arith,
+      ints,
+      pred_ℤ-*ℤ (negsuc n) (b +ℤ c),
+      pred_ℤ-*ℤ (negsuc n) b,
+      pred_ℤ-*ℤ (negsuc n) c,
+      times_sum (negsuc n) b c,
+    )
 
 pub times_opposite : (x z : ℤ) → x *ℤ neg_ℤ z ≡ neg_ℤ (x *ℤ z)
 times_opposite x z =
@@ -40,14 +57,17 @@ dot-zeros (x ∷ u) (suc n) = omega (arith, ints, *ℤ-zero x, dot-zeros u n)
 
 -- ---- the same for several rows
 
-pub rows-add : (rows : List Vector) (u v : Vector) → length u ≡ length v → map (λ row. dot row (add u v)) rows ≡ add (map (λ row. dot row u) rows) (map (λ row. dot row v) rows)
+pub rows-add : (rows : List Vector) (u v : Vector) → length u ≡ length v →
+    map (λ row. dot row (add u v)) rows ≡ add (map (λ row. dot row u) rows) (map (λ row. dot row v) rows)
 rows-add [] u v e = refl
 rows-add (row ∷ rows) u v e =
     let one : dot row (add u v) ≡ dot row u +ℤ dot row v = dot-add row u v e in
-    let rest : map (λ row. dot row (add u v)) rows ≡ add (map (λ row. dot row u) rows) (map (λ row. dot row v) rows) = rows-add rows u v e in
+    let rest : map (λ row. dot row (add u v)) rows ≡ add (map (λ row. dot row u) rows) (map (λ row. dot row v) rows) =
+    rows-add rows u v e in
     λ i. one i ∷ rest i
 
-pub rows-opposite : (rows : List Vector) (v : Vector) → map (λ row. dot row (opposite v)) rows ≡ opposite (map (λ row. dot row v) rows)
+pub rows-opposite : (rows : List Vector) (v : Vector) →
+    map (λ row. dot row (opposite v)) rows ≡ opposite (map (λ row. dot row v) rows)
 rows-opposite [] v = refl
 rows-opposite (row ∷ rows) v = λ i. dot-opposite row v i ∷ rows-opposite rows v i
 
@@ -91,4 +111,5 @@ zero-zeros (suc n) = zero-zeros n
 
 pub zeros-append : (m n : ℕ) → zeros m ++ zeros n ≡ zeros (m + n)
 zeros-append zero n = ap zeros (omega arith)
-zeros-append (suc m) n = let e : suc (m + n) ≡ suc m + n = omega arith in ap (λ v. pos 0 ∷ v) (zeros-append m n) ∙ ap zeros e
+zeros-append (suc m) n = let e : suc (m + n) ≡ suc m + n = omega arith in
+    ap (λ v. pos 0 ∷ v) (zeros-append m n) ∙ ap zeros e

@@ -1,5 +1,6 @@
 -- Whole numbers under the conformal order: what is between 0 and a number, and when two numbers clash.
-use Rattle.std.proofs.Common.{◌≡◌, ℕ, zero, suc, ◌+◌, ◌<◌, ◌≤◌, ℤ, pos, negsuc, ◌+ℤ◌, ◌-ℤ◌, ◌*ℤ◌, neg_ℤ, int_le, unsigned_abs, Bool, true, false, min, refl, ap, arith}
+use Rattle.std.proofs.Common.{◌≡◌, ℕ, zero, suc, ◌+◌, ◌<◌, ◌≤◌, ℤ, pos, negsuc, ◌+ℤ◌, ◌-ℤ◌, ◌*ℤ◌, neg_ℤ, int_le}
+use Rattle.std.proofs.Common.{unsigned_abs, Bool, true, false, min, refl, ap, arith, ◌⊎◌, inl, inr}
 use Rattle.std.proofs.lemmas.Int.{ints}
 use Rattle.std.proofs.Math.IntN.{*ℤ_comm}
 use Rattle.std.proofs.lemmas.Bool.Decides.{nat_tests}
@@ -168,3 +169,20 @@ between_parts a b c d part between agreeing =
 pub between_zero : (a : ℤ) → is_between (pos 0) a ≡ true
 between_zero (pos a) = grind (arith, nat_tests, ints)
 between_zero (negsuc a) = grind (arith, nat_tests, ints)
+
+-- what is below 0 is 0
+pub below_zero : (a : ℤ) → is_between a (pos 0) ≡ true → a ≡ pos 0
+below_zero a below = grind (arith, nat_tests, ints)
+
+-- 0 and 1 are all that is below 1
+pub zero_or_one : (a : ℤ) → is_between a (pos 1) ≡ true → (a ≡ pos 0) ⊎ (a ≡ pos 1)
+zero_or_one (pos zero) below = inl refl
+zero_or_one (pos (suc zero)) below = inr refl
+zero_or_one (pos (suc (suc n))) below = absurd (no_more n below)
+  where
+    no_more : (n : ℕ) → is_between (pos (suc (suc n))) (pos 1) ≡ true → ⊥
+    no_more n below = grind (arith, nat_tests, ints)
+zero_or_one (negsuc n) below = absurd (not_negative n below)
+  where
+    not_negative : (n : ℕ) → is_between (negsuc n) (pos 1) ≡ true → ⊥
+    not_negative n below = grind (arith, nat_tests, ints)

@@ -1,5 +1,6 @@
 -- Slack bases: at most one of a matrix, none past its limits, and what they cover.
-use Rattle.std.proofs.Common.{◌≡◌, ℕ, zero, suc, ◌<◌, true, false, List, [], ◌∷◌, length, ap, arith, sym, ◌∙◌, Contains, ◌⊎◌, inl, inr, subst}
+use Rattle.std.proofs.Common.{◌≡◌, ℕ, zero, suc, ◌+◌, ◌<◌, true, false, List, [], ◌∷◌, length, ap, arith, sym, ◌∙◌}
+use Rattle.std.proofs.Common.{Contains, ◌⊎◌, inl, inr, subst, Some, slice_get}
 use Rattle.std.specs.List.{All, AllByRecursion}
 use Rattle.std.proofs.lemmas.Bool.{cases_lt}
 use Rattle.std.proofs.lemmas.List.Elements.{All-contains, All-from_recursion}
@@ -9,6 +10,7 @@ use Rattle.lattice_theory.specs.Lattices.{InLattice, IsMinimal, IsSlackBasis}
 use Rattle.lattice_theory.specs.BasisLimits.{IsNarrow, IsBasisElement, ExceedsBasis, IsBasisWithin}
 use Rattle.lattice_laws.proofs.Tests.{true_or_false, not_both}
 use Rattle.lattice_laws.proofs.Members.{contains_cases, contains_head, contains_tail}
+use Rattle.lattice_laws.proofs.Places.{contains_at}
 use Rattle.lattice_laws.proofs.Conformal.{conforms_refl, conforms_trans, below_same, leads_either, opposite-opposite}
 use Rattle.lattice_laws.proofs.Elements.{minimal-opposite}
 use Rattle.lattice_laws.proofs.Rising.{AreDifferent, rising_unique, rising_length, arranged}
@@ -23,8 +25,15 @@ slack_basis_unique m xs ys h k =
         let both = All-contains (IsBasisElement m) us z a.sound i in
         b.complete z both.0 both.1
 
+-- an element has an entry for each column and for each row
+pub length-basis_element : (m : Matrix) (basis : List Vector) (i : ℕ) (z : Vector) → IsSlackBasis m basis →
+    slice_get basis i ≡ Some z → length z ≡ m.cols + length m.rows
+length-basis_element m basis i z slack there =
+    (All-contains (IsBasisElement m) basis z slack.sound (contains_at basis i z there)).0.member.size
+
 -- a basis within the limit does not exceed it
-pub within_or_exceeds : (m : Matrix) (limit : ℕ) (basis : List Vector) → IsBasisWithin m limit basis → ExceedsBasis m limit → ⊥
+pub within_or_exceeds : (m : Matrix) (limit : ℕ) (basis : List Vector) → IsBasisWithin m limit basis →
+    ExceedsBasis m limit → ⊥
 within_or_exceeds m limit basis h (inl (zs, rising, many, sound)) =
     absurd (omega (
       arith,
@@ -82,7 +91,8 @@ reducible_or_not (v ∷ vs) z = elim (true_or_false (conforms v z)) [
       | inr d ↦ (e, inl d, b)
     ]
     without p q (e, inr c, b) = elim (contains_cases v vs (opposite e) c) [
-      | inl f ↦ absurd (not_both (conforms e z) b (ap (λ u. conforms u z) (sym (opposite-opposite e) ∙ ap opposite (sym f)) ∙ q))
+      | inl f ↦ absurd (not_both (conforms e z) b (ap (λ u. conforms u z) (sym (opposite-opposite e)
+          ∙ ap opposite (sym f)) ∙ q))
       | inr d ↦ (e, inr d, b)
     ]
 
@@ -91,38 +101,52 @@ pub slack_basis_covers : (m : Matrix) (basis : List Vector) → IsSlackBasis m b
 slack_basis_covers m basis h y inside nonzero = reached (suc (norm1 y)) y (omega arith) inside nonzero
   where
     -- where no member is below y, nor is another element, as the lighter ones are covered: y is minimal
-    least : (y : Vector) → ((u : Vector) → norm1 u < norm1 y → InLattice m u → is_zero u ≡ false → IsReducible basis u) → (IsReducible basis y → ⊥) →
+    least : (y : Vector) → ((u : Vector) → norm1 u < norm1 y → InLattice m u → is_zero u ≡ false →
+        IsReducible basis u) → (IsReducible basis y → ⊥) →
         (u : Vector) → InLattice m u → is_zero u ≡ false → u ⊑ y → u ≡ y
     least y lighter none u i n b = elim (cases_lt (norm1 u) (norm1 y)) [
       | inr heavy ↦ below_same u y b heavy
       | inl light ↦ let r = lighter u light i n in absurd (none (r.0, r.1, conforms_trans r.0 u y r.2 b))
     ]
 
-    listed : (y : Vector) → IsMinimal m y → (leads_positive y ≡ true) ⊎ (leads_positive (opposite y) ≡ true) → IsReducible basis y
+    listed : (y : Vector) → IsMinimal m y → (leads_positive y ≡ true) ⊎ (leads_positive (opposite y) ≡ true) →
+        IsReducible basis y
     listed y minimal (inl lead) = (y, inl (h.complete y minimal lead), conforms_refl y)
-    listed y minimal (inr lead) = (y, inr (h.complete (opposite y) (minimal-opposite m y minimal) lead), conforms_refl y)
+    listed y minimal (inr lead) = (
+      y,
+      inr (h.complete (opposite y) (minimal-opposite m y minimal) lead),
+      conforms_refl y,
+    )
 
     reached : (bound : ℕ) (y : Vector) → norm1 y < bound → InLattice m y → is_zero y ≡ false → IsReducible basis y
     reached zero y light i n = absurd (omega arith)
     reached (suc bound) y light i n = elim (reducible_or_not basis y) [
       | inl r ↦ r
       | inr none ↦
-          listed y (record { member = i; nonzero = n; least = least y (λ u lt j k. reached bound u (omega arith) j k) none }) (leads_either y n)
+          listed y (record {
+            member = i;
+            nonzero = n;
+            least = least y (λ u lt j k. reached bound u (omega arith) j k)
+                none;
+          }) (leads_either y n)
     ]
 
 -- ---- limits
 
 -- more than limit different elements of the basis exceed it
-pub exceeds_by_many : (m : Matrix) (limit : ℕ) (vs : List Vector) → AreDifferent vs → limit < length vs → All (IsBasisElement m) vs → ExceedsBasis m limit
+pub exceeds_by_many : (m : Matrix) (limit : ℕ) (vs : List Vector) → AreDifferent vs → limit < length vs →
+    All (IsBasisElement m) vs → ExceedsBasis m limit
 exceeds_by_many m limit vs different many sound =
     let a = arranged vs different in
     inl (
       a.all,
       a.rising,
       omega (arith, many, a.size),
-      All-from_recursion (IsBasisElement m) a.all (each a.all (λ z c. All-contains (IsBasisElement m) vs z sound (a.members z c))),
+      All-from_recursion (IsBasisElement m) a.all (each a.all (λ z c. All-contains (IsBasisElement m) vs z sound
+          (a.members z c))),
     )
   where
-    each : (zs : List Vector) → ((z : Vector) → Contains zs z → IsBasisElement m z) → AllByRecursion (IsBasisElement m) zs
+    each : (zs : List Vector) → ((z : Vector) → Contains zs z → IsBasisElement m z) →
+        AllByRecursion (IsBasisElement m) zs
     each [] h = tt
     each (z ∷ zs) h = (h z (contains_head z zs), each zs (λ w c. h w (contains_tail z zs w c)))

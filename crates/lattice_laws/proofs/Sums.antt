@@ -1,9 +1,11 @@
 -- Sums and differences of vectors: their order, and what is 0.
-use Rattle.std.proofs.Common.{◌≡◌, ℕ, zero, suc, pos, ◌+ℤ◌, ◌-ℤ◌, true, ◌&&◌, ◌∷◌, length, refl, ap, arith, sym, ◌∙◌, subst, []}
+use Rattle.std.proofs.Common.{◌≡◌, ℕ, zero, suc, pos, ◌+ℤ◌, ◌-ℤ◌, true, ◌&&◌, ◌∷◌, length, refl, ap, arith, sym, ◌∙◌}
+use Rattle.std.proofs.Common.{subst, []}
 use Rattle.std.proofs.lemmas.Int.{ints}
 use Rattle.lattice_theory.specs.Vectors.{Vector, is_zero, norm1, add, sub, opposite, zeros, ◌⊑◌, conforms}
 use Rattle.lattice_laws.proofs.Products.{zeros_is, length-zeros, zero-zeros}
-use Rattle.lattice_laws.proofs.Conformal.{norm1-cons, add_comm_v, add_sub, sub-opposite, length-add, length-opposite, length_below, norm_of_zero, norm_none, norm_below}
+use Rattle.lattice_laws.proofs.Conformal.{norm1-cons, add_comm_v, add_sub, sub-opposite, length-add, length-opposite}
+use Rattle.lattice_laws.proofs.Conformal.{length_below, norm_of_zero, norm_none, norm_below}
 use Rattle.lattice_laws.proofs.Signs.{between_zero}
 
 -- ---- sums

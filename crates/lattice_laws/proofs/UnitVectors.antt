@@ -1,12 +1,14 @@
 -- The unit vectors: the slack basis of the matrix with no row.
-use Rattle.std.proofs.Common.{◌≡◌, ◌≢◌, ℕ, zero, suc, ◌<◌, ◌≤◌, ℤ, pos, negsuc, true, false, ◌&&◌, List, [], ◌∷◌, ◌++◌, length, refl, ap, arith, sym, ◌∙◌, Contains, ◌⊎◌, inl, inr, subst}
+use Rattle.std.proofs.Common.{◌≡◌, ◌≢◌, ℕ, zero, suc, ◌<◌, ◌≤◌, pos, negsuc, true, false, ◌&&◌, List, [], ◌∷◌, ◌++◌}
+use Rattle.std.proofs.Common.{length, refl, ap, arith, sym, ◌∙◌, Contains, ◌⊎◌, inl, inr, subst}
 use Rattle.std.specs.List.{All}
 use Rattle.std.specs.Ordering.{int_eq}
 use Rattle.std.proofs.lemmas.Int.{ints}
 use Rattle.std.proofs.lemmas.Bool.Decides.{nat_tests}
 use Rattle.std.proofs.lemmas.Bool.{cases_eq}
 use Rattle.std.proofs.lemmas.List.{drop_all, length_push}
-use Rattle.std.proofs.lemmas.List.Elements.{All-nil, All-push, All-weaker, All-get_or, Contains-append_left, Contains-push}
+use Rattle.std.proofs.lemmas.List.Elements.{All-nil, All-push, All-weaker, All-get_or, Contains-append_left}
+use Rattle.std.proofs.lemmas.List.Elements.{Contains-push}
 use Rattle.std.proofs.lemmas.List.Quantifiers.{all_pairs_push}
 use Rattle.lattice_theory.specs.Vectors.{Vector, ◌⊑◌, conforms, is_between, is_zero, leads_positive, opposite, zeros}
 use Rattle.lattice_theory.specs.Matrices.{Matrix, unit_vector}
@@ -17,20 +19,23 @@ use Rattle.lattice_laws.proofs.Conformal.{opposite-opposite}
 use Rattle.lattice_laws.proofs.Products.{length-zeros, zero-zeros}
 use Rattle.lattice_laws.proofs.Rising.{AreDifferent}
 use Rattle.lattice_laws.proofs.SlackBases.{Covers}
+use Rattle.lattice_laws.proofs.Signs.{below_zero, between_zero, zero_or_one}
+use Rattle.lattice_laws.proofs.Sums.{opposite-zeros}
 
 pub length-unit : (t j : ℕ) → length (unit_vector t j) ≡ t
 length-unit zero j = refl
 length-unit (suc t) zero = ap suc (length-zeros t)
 length-unit (suc t) (suc j) = ap suc (length-unit t j)
 
-unit_leads : (t j : ℕ) → j < t → leads_positive (unit_vector t j) ≡ true
+pub unit_leads : (t j : ℕ) → j < t → leads_positive (unit_vector t j) ≡ true
 unit_leads zero j h = absurd (omega arith)
 unit_leads (suc t) zero h = refl
 unit_leads (suc t) (suc j) h = unit_leads t j (omega arith)
 
 unit_nonzero : (t j : ℕ) → j < t → is_zero (unit_vector t j) ≡ false
 unit_nonzero zero j h = absurd (omega arith)
-unit_nonzero (suc t) zero h = let e : int_eq (pos 1) (pos 0) ≡ false = grind (arith, nat_tests, ints) in ap (λ b. b && is_zero (zeros t)) e
+unit_nonzero (suc t) zero h = let e : int_eq (pos 1) (pos 0) ≡ false = grind (arith, nat_tests, ints) in
+    ap (λ b. b && is_zero (zeros t)) e
 unit_nonzero (suc t) (suc j) h = unit_nonzero t j (omega arith)
 
 -- what is below 0 is 0
@@ -40,20 +45,15 @@ below_zeros zero (a ∷ u) h = absurd (cc)
 below_zeros (suc t) [] h = absurd (cc)
 below_zeros (suc t) (a ∷ u) h =
     let p = and_true (is_between a (pos 0)) (conforms u (zeros t)) h in
-    let e : a ≡ pos 0 = between_zero a p.0 in
+    let e : a ≡ pos 0 = below_zero a p.0 in
     λ i. e i ∷ below_zeros t u p.1 i
-  where
-    between_zero : (a : ℤ) → is_between a (pos 0) ≡ true → a ≡ pos 0
-    between_zero a k = grind (arith, nat_tests, ints)
 
 zeros_below : (t : ℕ) (y : Vector) → length y ≡ t → zeros t ⊑ y
 zeros_below zero [] e = refl
 zeros_below zero (b ∷ y) e = absurd (omega arith)
 zeros_below (suc t) [] e = absurd (omega arith)
-zeros_below (suc t) (b ∷ y) e = let k : is_between (pos 0) b ≡ true = zero_between b in ap (λ s. s && conforms (zeros t) y) k ∙ zeros_below t y (omega arith)
-  where
-    zero_between : (b : ℤ) → is_between (pos 0) b ≡ true
-    zero_between b = grind (arith, nat_tests, ints)
+zeros_below (suc t) (b ∷ y) e = let k : is_between (pos 0) b ≡ true = between_zero b in
+    ap (λ s. s && conforms (zeros t) y) k ∙ zeros_below t y (omega arith)
 
 -- nothing but a unit vector is below it
 below_unit : (t j : ℕ) (u : Vector) → is_zero u ≡ false → u ⊑ unit_vector t j → u ≡ unit_vector t j
@@ -67,28 +67,13 @@ below_unit (suc t) zero (a ∷ u) n h =
       | inl e ↦ absurd (not_both (is_zero (a ∷ u)) (ap (λ b. is_zero (b ∷ u)) e ∙ ap is_zero r ∙ zero-zeros t) n)
       | inr e ↦ λ i. e i ∷ r i
     ]
-  where
-    zero_or_one : (a : ℤ) → is_between a (pos 1) ≡ true → (a ≡ pos 0) ⊎ (a ≡ pos 1)
-    zero_or_one (pos zero) k = inl refl
-    zero_or_one (pos (suc zero)) k = inr refl
-    zero_or_one (pos (suc (suc n))) k = absurd (not_one n k)
-      where
-        not_one : (n : ℕ) → is_between (pos (suc (suc n))) (pos 1) ≡ true → ⊥
-        not_one n k = grind (arith, nat_tests, ints)
-    zero_or_one (negsuc n) k = absurd (not_negative n k)
-      where
-        not_negative : (n : ℕ) → is_between (negsuc n) (pos 1) ≡ true → ⊥
-        not_negative n k = grind (arith, nat_tests, ints)
 below_unit (suc t) (suc j) [] n h = absurd (cc)
 below_unit (suc t) (suc j) (a ∷ u) n h =
     let p = and_true (is_between a (pos 0)) (conforms u (unit_vector t j)) h in
-    let e : a ≡ pos 0 = between_zero a p.0 in
+    let e : a ≡ pos 0 = below_zero a p.0 in
     let m : is_zero u ≡ false = ap (λ b. is_zero (b ∷ u)) (sym e) ∙ n in
     let r : u ≡ unit_vector t j = below_unit t j u m p.1 in
     λ i. e i ∷ r i
-  where
-    between_zero : (a : ℤ) → is_between a (pos 0) ≡ true → a ≡ pos 0
-    between_zero a k = grind (arith, nat_tests, ints)
 
 -- ---- the matrix with no row
 
@@ -121,13 +106,15 @@ units_are : (t n : ℕ) → All (λ z. (j : ℕ) × (j < n) × (z ≡ unit_vecto
 units_are t zero = All-nil (λ z. (j : ℕ) × (j < 0) × (z ≡ unit_vector t j))
 units_are t (suc n) =
     All-push (λ z. (j : ℕ) × (j < suc n) × (z ≡ unit_vector t j)) (first_units t n) (unit_vector t n)
-    (All-weaker (λ z. (j : ℕ) × (j < n) × (z ≡ unit_vector t j)) (λ z. (j : ℕ) × (j < suc n) × (z ≡ unit_vector t j)) (λ z h. (h.0, omega (arith, h.1), h.2)) (first_units t n) (units_are t n))
+    (All-weaker (λ z. (j : ℕ) × (j < n) × (z ≡ unit_vector t j)) (λ z. (j : ℕ) × (j < suc n) × (z ≡ unit_vector t j))
+    (λ z h. (h.0, omega (arith, h.1), h.2)) (first_units t n) (units_are t n))
     (n, omega arith, refl)
 
 pub units_elements : (t : ℕ) → All (IsBasisElement (without_rows t)) (first_units t t)
 units_elements t =
     All-weaker (λ z. (j : ℕ) × (j < t) × (z ≡ unit_vector t j)) (IsBasisElement (without_rows t))
-    (λ z h. subst (IsBasisElement (without_rows t)) (sym h.2) (unit_element t h.0 h.1)) (first_units t t) (units_are t t)
+    (λ z h. subst (IsBasisElement (without_rows t)) (sym h.2) (unit_element t h.0 h.1)) (first_units t t)
+    (units_are t t)
 
 unit_known : (t i j : ℕ) → i < t → j < t → unit_vector t i ≡ unit_vector t j → i ≡ j
 unit_known zero i j h k e = absurd (omega arith)
@@ -154,8 +141,10 @@ units_differ t = units_differ_upto t t (omega arith)
 unit_listed : (t n j : ℕ) → j < n → Contains (first_units t n) (unit_vector t j)
 unit_listed t zero j h = absurd (omega arith)
 unit_listed t (suc n) j h = elim (cases_eq j n) [
-  | inl e ↦ subst (λ k. Contains (first_units t (suc n)) (unit_vector t k)) (sym e) (Contains-push (first_units t n) (unit_vector t n))
-  | inr other ↦ Contains-append_left (first_units t n) (unit_vector t n ∷ []) (unit_vector t j) (unit_listed t n j (omega arith))
+  | inl e ↦ subst (λ k. Contains (first_units t (suc n)) (unit_vector t k)) (sym e)
+      (Contains-push (first_units t n) (unit_vector t n))
+  | inr other ↦ Contains-append_left (first_units t n) (unit_vector t n ∷ []) (unit_vector t j)
+      (unit_listed t n j (omega arith))
 ]
 
 -- a unit vector or its opposite is below each vector that is not 0
@@ -174,17 +163,23 @@ unit_below (suc t) (pos zero ∷ y) e n =
     record { place = suc r.place; low = omega (arith, r.low); below = elim r.below [ inl b ↦ inl b | inr b ↦ inr b ] }
 unit_below (suc t) (pos (suc a) ∷ y) e n =
     let k : is_between (pos 1) (pos (suc a)) ≡ true = grind (arith, nat_tests, ints) in
-    record { place = 0; low = omega arith; below = inl (ap (λ s. s && conforms (zeros t) y) k ∙ zeros_below t y (omega arith)) }
+    record {
+      place = 0;
+      low = omega arith;
+      below = inl (ap (λ s. s && conforms (zeros t) y) k
+          ∙ zeros_below t y (omega arith));
+    }
 unit_below (suc t) (negsuc a ∷ y) e n =
     let k : is_between (negsuc 0) (negsuc a) ≡ true = one_below a in
-    record { place = 0; low = omega arith; below = inr (ap (λ s. s && conforms (opposite (zeros t)) y) k ∙ subst (λ z. z ⊑ y) (sym (opposite-zeros t)) (zeros_below t y (omega arith))) }
+    record {
+      place = 0;
+      low = omega arith;
+      below = inr (ap (λ s. s && conforms (opposite (zeros t)) y) k
+          ∙ subst (λ z. z ⊑ y) (sym (opposite-zeros t)) (zeros_below t y (omega arith)));
+    }
   where
     one_below : (a : ℕ) → is_between (negsuc 0) (negsuc a) ≡ true
     one_below a = grind (arith, nat_tests, ints)
-
-    opposite-zeros : (n : ℕ) → opposite (zeros n) ≡ zeros n
-    opposite-zeros zero = refl
-    opposite-zeros (suc n) = ap (λ v. pos 0 ∷ v) (opposite-zeros n)
 
 pub units_cover : (t : ℕ) → Covers (without_rows t) (first_units t t)
 units_cover t y inside nonzero =
@@ -193,7 +188,8 @@ units_cover t y inside nonzero =
       | inl b ↦ (unit_vector t u.place, inl (unit_listed t t u.place u.low), b)
       | inr b ↦ (
         opposite (unit_vector t u.place),
-        inr (subst (Contains (first_units t t)) (sym (opposite-opposite (unit_vector t u.place))) (unit_listed t t u.place u.low)),
+        inr (subst (Contains (first_units t t)) (sym (opposite-opposite (unit_vector t u.place)))
+            (unit_listed t t u.place u.low)),
         b,
       )
     ]

@@ -1,12 +1,20 @@
 -- Lists of vectors: their sum, their weight, and lists whose vectors agree with each other.
-use Rattle.std.proofs.Common.{◌≡◌, ℕ, ◌+◌, ◌≤◌, List, ◌∷◌, ◌++◌, length, map, refl, ap, arith, sym, ◌∙◌, subst, true, [], Bool, false, ◌⊎◌, inl, inr}
-use Rattle.std.specs.List.{AllByRecursion}
-use Rattle.lattice_theory.specs.Vectors.{Vector, ◌⊑◌, norm1, add, opposite}
-use Rattle.lattice_laws.proofs.Conformal.{length-add, opposite-add, norm-opposite, agree, agree_comm, conforms_trans, below_sum, add_comm_v, agree_parts, norm_agree, norm_sum}
+use Rattle.std.proofs.Common.{◌≡◌, ℕ, ◌+◌, ◌≤◌, List, ◌∷◌, ◌++◌, length, map, refl, ap, arith, sym, ◌∙◌, subst, true}
+use Rattle.std.proofs.Common.{[], Bool, false, ◌⊎◌, inl, inr, zero, suc, ◌*◌, take, drop, length-append, Contains}
+use Rattle.std.specs.List.{AllByRecursion, filter}
+use Rattle.std.proofs.lemmas.List.{take-append-le, drop-append-le, take_all, length-drop, length-map, take_at, drop_at}
+use Rattle.std.proofs.lemmas.List.Sums.{length-filter, count_by-le-length}
+use Rattle.lattice_theory.specs.Vectors.{Vector, ◌⊑◌, norm1, add, opposite, is_zero}
+use Rattle.lattice_theory.specs.Matrices.{rows_of}
+use Rattle.lattice_theory.specs.Lattices.{kernel}
+use Rattle.lattice_theory.specs.SignedSums.{Sum, vectors}
+use Rattle.lattice_laws.proofs.Conformal.{length-add, opposite-add, norm-opposite, agree, agree_comm, conforms_trans}
+use Rattle.lattice_laws.proofs.Conformal.{below_sum, add_comm_v, agree_parts, norm_agree, norm_sum}
 use Rattle.lattice_laws.proofs.Products.{length-zeros}
 use Rattle.lattice_laws.proofs.Sums.{add_assoc_v, zeros_add, opposite-zeros, norm-zeros}
 use Rattle.lattice_laws.proofs.Agreement.{agree_sum, agree_zeros}
-use Rattle.lattice_laws.specs.VectorLists.{sum_of, weight, AreSized}
+use Rattle.lattice_laws.specs.VectorLists.{sum_of, weight, AreSized, flat}
+use Rattle.lattice_laws.proofs.Members.{contains_cases, contains_head, contains_tail}
 
 -- ---- their sum and their weight
 
@@ -120,3 +128,63 @@ agreeing_or_clashing (u ∷ us) = by (with_all u us) (agreeing_or_clashing us)
     by (inr one) r = inr (inl one)
     by (inl all) (inl pairs) = inl (all, pairs)
     by (inl all) (inr pair) = inr (inr pair)
+
+-- ---- rows, one after the other
+
+-- there are as many rows as were asked for
+pub length_rows_of : (n cols : ℕ) (entries : Vector) → length (rows_of n cols entries) ≡ n
+length_rows_of zero cols entries = refl
+length_rows_of (suc n) cols entries = ap suc (length_rows_of n cols (drop cols entries))
+
+-- a row more behind rows
+pub rows_of-push : (n cols : ℕ) (entries row : Vector) → length entries ≡ n * cols → length row ≡ cols →
+    rows_of (suc n) cols (entries ++ row) ≡ rows_of n cols entries ++ row ∷ []
+rows_of-push zero cols [] row all width = ap (λ (r : Vector). r ∷ []) (take_all cols row (omega arith))
+rows_of-push zero cols (a ∷ entries) row all width = absurd (omega arith)
+rows_of-push (suc n) cols entries row all width =
+    let enough : cols ≤ length entries = omega arith in
+    let left : length (drop cols entries) ≡ n * cols = omega (arith, length-drop cols entries) in
+    rw (
+      take-append-le cols entries row enough,
+      drop-append-le cols entries row enough,
+      rows_of-push n cols (drop cols entries) row left width,
+    ) refl
+
+-- all entries of rows of one width
+pub length-flat : (cols : ℕ) (rows : List Vector) → AllByRecursion (λ row. length row ≡ cols) rows →
+    length (flat rows) ≡ length rows * cols
+length-flat cols [] all = omega arith
+length-flat cols (row ∷ rows) all = omega (arith, length-append row (flat rows), length-flat cols rows all.1, all.0)
+
+-- which make the rows again
+pub rows_of-flat : (cols : ℕ) (rows : List Vector) → AllByRecursion (λ row. length row ≡ cols) rows →
+    rows_of (length rows) cols (flat rows) ≡ rows
+rows_of-flat cols [] all = refl
+rows_of-flat cols (row ∷ rows) all =
+    rw (
+      take_at row (flat rows) cols all.0,
+      drop_at row (flat rows) cols all.0,
+      rows_of-flat cols rows all.1,
+    ) refl
+
+-- a list has at least as many members as its kernel
+pub length-kernel : (cols : ℕ) (basis : List Vector) → length (kernel cols basis) ≤ length basis
+length-kernel cols basis =
+    let quiet : Vector → Bool = λ z. is_zero (drop cols z) in
+    omega (
+      arith,
+      length-map (filter quiet basis) (take cols),
+      length-filter quiet basis,
+      count_by-le-length quiet basis,
+    )
+
+-- ---- vectors of sums
+
+-- a listed vector is that of a listed sum
+pub vectors-sum : (sums : List Sum) (w : Vector) → Contains (vectors sums) w →
+    (s : Sum) × Contains sums s × (s.vector ≡ w)
+vectors-sum [] w (k, low, e) = absurd (omega arith)
+vectors-sum (s ∷ sums) w c = elim (contains_cases s.vector (vectors sums) w c) [
+  | inl e ↦ (s, contains_head s sums, e)
+  | inr d ↦ let r = vectors-sum sums w d in (r.0, contains_tail s sums r.0 r.1, r.2)
+]

@@ -1,5 +1,5 @@
--- Words on lists of vectors: their sum and their weight.
-use Rattle.std.proofs.Common.{◌≡◌, ℕ, ◌+◌, List, ◌∷◌, length}
+-- Words on lists of vectors: their sum, their weight and their entries.
+use Rattle.std.proofs.Common.{◌≡◌, ℕ, ◌+◌, List, ◌∷◌, length, flat_map}
 use Rattle.std.specs.List.{AllByRecursion}
 use Rattle.lattice_theory.specs.Vectors.{Vector, norm1, add, zeros}
 use Rattle.std.specs.Prelude.{[]}
@@ -17,3 +17,7 @@ sum_of n (e ∷ es) = add e (sum_of n es)
 abbrev pub weight : List Vector → ℕ
 weight [] = 0
 weight (e ∷ es) = norm1 e + weight es
+
+-- all entries, vector after vector
+abbrev pub flat : List Vector → Vector
+flat vs = flat_map (λ v. v) vs

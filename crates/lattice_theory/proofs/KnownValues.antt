@@ -1,7 +1,8 @@
 -- The definitions at values worked by hand.
 use Rattle.std.specs.Prelude.{◌≡◌, ℕ, ℤ, pos, neg_ℤ, true, false, List, [], ◌∷◌, Some, None, refl}
 use Rattle.std.specs.declared.cmp.Ordering.TheVariants.{Less, Greater}
-use Rattle.lattice_theory.specs.Vectors.{Vector, conforms, norm1, leads_positive, lex_cmp, is_rising, add, dot, first_unbounded}
+use Rattle.lattice_theory.specs.Vectors.{Vector, conforms, norm1, leads_positive, lex_cmp, is_rising, add, dot}
+use Rattle.lattice_theory.specs.Vectors.{first_unbounded}
 use Rattle.lattice_theory.specs.Matrices.{Matrix, rows_of, element}
 use Rattle.lattice_theory.specs.Lattices.{is_complete_for, kernel, greatest_multiple}
 
@@ -73,13 +74,15 @@ twice_below = refl
 
 -- ---- matrices and their slack bases
 
-pub rows_in_order : rows_of 2 3 (six (pos 1) (pos 2) (pos 3) (pos 4) (pos 5) (pos 6)) ≡ three (pos 1) (pos 2) (pos 3) ∷ three (pos 4) (pos 5) (pos 6) ∷ []
+pub rows_in_order : rows_of 2 3 (six (pos 1) (pos 2) (pos 3) (pos 4) (pos 5) (pos 6)) ≡ three (pos 1) (pos 2) (pos 3)
+    ∷ three (pos 4) (pos 5) (pos 6) ∷ []
 rows_in_order = refl
 
 abbrev pub matrix : ℕ → List Vector → Matrix
 matrix cols rows = record { cols = cols; rows = rows }
 
-pub with_its_image : element (matrix 2 (two (pos 1) (pos 1) ∷ [])) (two (pos 1) (minus 1)) ≡ three (pos 1) (minus 1) (pos 0)
+pub with_its_image : element (matrix 2 (two (pos 1) (pos 1) ∷ [])) (two (pos 1) (minus 1)) ≡ three (pos 1) (minus 1)
+    (pos 0)
 with_its_image = refl
 
 -- the row (1 1)
@@ -90,7 +93,8 @@ pub complete_11 : is_complete_for (matrix 2 (two (pos 1) (pos 1) ∷ [])) basis_
 complete_11 = refl
 
 -- without its member in the kernel it is not
-pub incomplete_11 : is_complete_for (matrix 2 (two (pos 1) (pos 1) ∷ [])) (three (pos 0) (pos 1) (pos 1) ∷ three (pos 1) (pos 0) (pos 1) ∷ []) ≡ false
+pub incomplete_11 : is_complete_for (matrix 2 (two (pos 1) (pos 1) ∷ [])) (three (pos 0) (pos 1) (pos 1)
+    ∷ three (pos 1) (pos 0) (pos 1) ∷ []) ≡ false
 incomplete_11 = refl
 
 pub kernel_11 : kernel 2 basis_11 ≡ two (pos 1) (minus 1) ∷ []
@@ -103,12 +107,16 @@ complete_without_rows = refl
 -- the row (1 2 1): nine elements, of which four are in the kernel
 abbrev pub basis_121 : List Vector
 basis_121 =
-    four (pos 0) (pos 0) (pos 1) (pos 1) ∷ four (pos 0) (pos 1) (minus 2) (pos 0) ∷ four (pos 0) (pos 1) (minus 1) (pos 1)
-    ∷ four (pos 0) (pos 1) (pos 0) (pos 2) ∷ four (pos 1) (minus 1) (pos 0) (minus 1) ∷ four (pos 1) (minus 1) (pos 1) (pos 0)
-    ∷ four (pos 1) (pos 0) (minus 1) (pos 0) ∷ four (pos 1) (pos 0) (pos 0) (pos 1) ∷ four (pos 2) (minus 1) (pos 0) (pos 0) ∷ []
+    four (pos 0) (pos 0) (pos 1) (pos 1) ∷ four (pos 0) (pos 1) (minus 2) (pos 0)
+    ∷ four (pos 0) (pos 1) (minus 1) (pos 1)
+    ∷ four (pos 0) (pos 1) (pos 0) (pos 2) ∷ four (pos 1) (minus 1) (pos 0) (minus 1)
+    ∷ four (pos 1) (minus 1) (pos 1) (pos 0)
+    ∷ four (pos 1) (pos 0) (minus 1) (pos 0) ∷ four (pos 1) (pos 0) (pos 0) (pos 1)
+    ∷ four (pos 2) (minus 1) (pos 0) (pos 0) ∷ []
 
 pub complete_121 : is_complete_for (matrix 3 (three (pos 1) (pos 2) (pos 1) ∷ [])) basis_121 ≡ true
 complete_121 = refl
 
-pub kernel_121 : kernel 3 basis_121 ≡ three (pos 0) (pos 1) (minus 2) ∷ three (pos 1) (minus 1) (pos 1) ∷ three (pos 1) (pos 0) (minus 1) ∷ three (pos 2) (minus 1) (pos 0) ∷ []
+pub kernel_121 : kernel 3 basis_121 ≡ three (pos 0) (pos 1) (minus 2) ∷ three (pos 1) (minus 1) (pos 1)
+    ∷ three (pos 1) (pos 0) (minus 1) ∷ three (pos 2) (minus 1) (pos 0) ∷ []
 kernel_121 = refl

@@ -1,8 +1,11 @@
 -- The lattice of all (v, A·v), its Graver basis, and Pottier's criterion on a list of vectors.
-use Rattle.std.specs.Prelude.{◌≡◌, ℕ, zero, suc, ◌+◌, ◌/◌, min, pos, unsigned_abs, Bool, false, ◌&&◌, nat_eq, IsTrue, List, [], ◌∷◌, map, length, take, drop, Option, Some, None, cond, All, Contains, filter, fold}
+use Rattle.std.specs.Prelude.{◌≡◌, ℕ, zero, suc, ◌+◌, ◌/◌, min, pos, unsigned_abs, Bool, false, ◌&&◌, nat_eq, IsTrue}
+use Rattle.std.specs.Prelude.{List, [], ◌∷◌, map, length, take, drop, Option, Some, None, cond, All, Contains, filter}
+use Rattle.std.specs.Prelude.{fold}
 use Rattle.std.specs.List.{list_all}
 use Rattle.lattice_theory.specs.Lists.{numbers_from}
-use Rattle.lattice_theory.specs.Vectors.{Vector, ◌⊑◌, conforms, is_zero, leads_positive, is_rising, same, add, sub, scale, opposite, norm1}
+use Rattle.lattice_theory.specs.Vectors.{Vector, ◌⊑◌, conforms, is_zero, leads_positive, is_rising, same, add, sub}
+use Rattle.lattice_theory.specs.Vectors.{scale, opposite, norm1}
 use Rattle.lattice_theory.specs.Matrices.{Matrix, product, element, unit_vector}
 
 -- z is (v, A·v) for the vector v of its first entries

@@ -1,5 +1,6 @@
 -- Matrices of whole numbers, by their rows.
-use Rattle.std.specs.Prelude.{◌≡◌, ℕ, zero, suc, ℤ, pos, Bool, ◌&&◌, nat_eq, List, [], ◌∷◌, ◌++◌, map, length, take, drop, All}
+use Rattle.std.specs.Prelude.{◌≡◌, ℕ, zero, suc, ℤ, pos, Bool, ◌&&◌, nat_eq, List, [], ◌∷◌, ◌++◌, map, length, take}
+use Rattle.std.specs.Prelude.{drop, All}
 use Rattle.std.specs.List.{list_all}
 use Rattle.lattice_theory.specs.Vectors.{Vector, dot, zeros}
 

@@ -6,7 +6,8 @@ use Rattle.lattice_theory.specs.Vectors.{Vector, add, sub, zeros, is_rising}
 abbrev pub IsSignedSum : ℕ → List Vector → ℕ → Vector → Type 0
 IsSignedSum t gens zero w = w ≡ zeros t
 IsSignedSum t gens (suc n) w =
-    (before : Vector) × (e : Vector) × IsSignedSum t gens n before × Contains gens e × ((w ≡ add before e) ⊎ (w ≡ sub before e))
+    (before : Vector) × (e : Vector) × IsSignedSum t gens n before × Contains gens e
+    × ((w ≡ add before e) ⊎ (w ≡ sub before e))
 
 -- a vector with the least number of signed generators whose sum it is
 pub record Sum : Type 0 where

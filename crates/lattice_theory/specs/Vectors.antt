@@ -1,5 +1,7 @@
 -- Vectors of whole numbers: the conformal order, the 1-norm, the lexicographic order, sums and products.
-use Rattle.std.specs.Prelude.{ℕ, suc, zero, ◌≤◌, ◌^◌, ℤ, pos, negsuc, ◌+ℤ◌, ◌-ℤ◌, ◌*ℤ◌, neg_ℤ, unsigned_abs, int_le, nat_le, Bool, true, false, ◌&&◌, not, IsTrue, List, [], ◌∷◌, map, sum_by, replicate, Option, All}
+use Rattle.std.specs.Prelude.{ℕ, suc, zero, ◌≤◌, ◌^◌, ℤ, pos, negsuc, ◌+ℤ◌, ◌-ℤ◌, ◌*ℤ◌, neg_ℤ, unsigned_abs, int_le}
+use Rattle.std.specs.Prelude.{nat_le, Bool, true, false, ◌&&◌, not, IsTrue, List, [], ◌∷◌, map, sum_by, replicate}
+use Rattle.std.specs.Prelude.{Option, All}
 use Rattle.std.specs.List.{list_all, list_any, position_from}
 use Rattle.std.specs.Ordering.{int_cmp, int_eq, is_lt}
 use Rattle.std.specs.Cmp.Lexicographic.{slice_cmp, pointwise}

@@ -1,8 +1,7 @@
 -- What a flag says that tells whether a layer was changed, and counts that rise by at most so much in each round.
 use Rattle.std.proofs.Common.{◌≡◌, ℕ, ◌+◌, ◌*◌, ◌≤◌, ℤ, Bool, true, false, ◌||◌, get_or, ap, arith, sym, ◌∙◌, Option}
-use Rattle.std.proofs.Common.{Some, None, subst}
+use Rattle.std.proofs.Common.{None, subst}
 use Rattle.std.specs.Bool.{OnFalse}
-use Rattle.std.specs.Prelude.{IfSome}
 use Rattle.std.proofs.Math.ListN.{set}
 use Rattle.std.proofs.lemmas.List.{set-get_or}
 use Rattle.sieve_laws.specs.Sieve.{Layer}
@@ -31,7 +30,3 @@ same_told told now first more flag here = subst (λ b. OnFalse b (more ≡ first
 
 pub count_more : (a m n len i : ℕ) → m ≤ a + i * len → n ≤ m + len → n ≤ a + (i + 1) * len
 count_more a m n len i so_far here = omega (arith, so_far, here)
-
-pub if_some : {A : Type 0} (P : A → Type 0) (o : Option A) (x : A) → o ≡ Some x → IfSome o P → P x
-if_some P None x e h = absurd (cc)
-if_some P (Some y) x e h = let same : y ≡ x = cc in subst P same h

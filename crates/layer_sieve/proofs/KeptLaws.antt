@@ -4,8 +4,8 @@ use Rattle.std.proofs.Common.{Some, slice_get, subst}
 use Rattle.std.proofs.lemmas.List.Elements.{All-head, All-tail, All-cons, All-nil, All-push}
 use Rattle.std.proofs.lemmas.List.{length-append}
 use Rattle.std.proofs.lemmas.Option.{slice_get_within, get_or_from_slice_get}
+use Rattle.lattice_laws.proofs.Places.{same_value}
 use Rattle.sieve_laws.specs.Sieve.{Layer}
-use Rattle.sieve_laws.proofs.Cells.{at_same}
 use Rattle.layer_sieve.specs.Layers.{Row, row_at, AreKept}
 
 row_at-before : (rows : List Row) (row : Row) (i : ℕ) → i < length rows → row_at (rows ++ row ∷ []) i ≡ row_at rows i
@@ -79,12 +79,12 @@ kept_place rows places more i is low kept =
 pub slice_get-layers : (rows : List Row) (places : List ℕ) (at i : ℕ) → slice_get places at ≡ Some i →
     slice_get (map (row_at rows) places) at ≡ Some (row_at rows i)
 slice_get-layers rows [] at i there = absurd (cc)
-slice_get-layers rows (p ∷ places) zero i there = ap (λ j. Some (row_at rows j)) (at_same (Some p) p i refl there)
+slice_get-layers rows (p ∷ places) zero i there = ap (λ j. Some (row_at rows j)) (same_value (Some p) p i refl there)
 slice_get-layers rows (p ∷ places) (suc at) i there = slice_get-layers rows places at i there
 
 pub row_at-get : (rows : List Row) (i : ℕ) (row : Row) → slice_get rows i ≡ Some row → row_at rows i ≡ row.items
 row_at-get [] i row there = absurd (cc)
-row_at-get (r ∷ rows) zero row there = ap (λ (r : Row). r.items) (at_same (Some r) r row refl there)
+row_at-get (r ∷ rows) zero row there = ap (λ (r : Row). r.items) (same_value (Some r) r row refl there)
 row_at-get (r ∷ rows) (suc i) row there = row_at-get rows i row there
 
 -- each place is one of a layer that is kept
@@ -119,6 +119,6 @@ repeated rows places next at i there is kept =
     let more = kept_place rows places next i is low kept in (
       more.0,
       λ layer here. more.1 ∙ ap (λ l. map (row_at rows) places ++ l ∷ [])
-          (at_same (slice_get (map (row_at rows) places) at) (row_at rows i) layer
+          (same_value (slice_get (map (row_at rows) places) at) (row_at rows i) layer
           (slice_get-layers rows places at i there) here),
     )

@@ -1,6 +1,6 @@
 -- What a move reaches, and what it offers.
-use Rattle.std.proofs.Common.{◌≡◌, ℕ, ◌+◌, ◌^◌, ◌<◌, ◌≤◌, ℤ, ◌+ℤ◌, ◌-ℤ◌, ◌≤ℤ◌, true, List, length, refl, ap, arith}
-use Rattle.std.proofs.Common.{sym, ◌∙◌, Option, Some, None, slice_get, subst, ◌⊎◌, inl, inr, get_or, unsigned_abs}
+use Rattle.std.proofs.Common.{◌≡◌, ℕ, ◌+◌, ◌^◌, ◌<◌, ◌≤◌, ℤ, ◌+ℤ◌, ◌-ℤ◌, ◌≤ℤ◌, true, List, length, refl, ap, arith, sym}
+use Rattle.std.proofs.Common.{◌∙◌, Option, Some, None, slice_get, subst, ◌⊎◌, inl, inr, get_or, unsigned_abs}
 use Rattle.std.proofs.Common.{FitsSigned, pos, negsuc}
 use Rattle.std.specs.Int.{w128}
 use Rattle.std.proofs.lemmas.Int.{ints}
@@ -9,9 +9,10 @@ use Rattle.std.proofs.lemmas.List.{length-map}
 use Rattle.std.proofs.lemmas.Bool.{cases_lt}
 use Rattle.lattice_theory.specs.Vectors.{Vector, is_rising}
 use Rattle.lattice_theory.specs.SignedSums.{Sum, vectors}
+use Rattle.lattice_laws.proofs.Places.{same_value}
 use Rattle.sieve_laws.specs.declared.PricedMove.{PricedMove}
 use Rattle.sieve_laws.specs.Sieve.{Layer, Menu, Leads, Reaches, IsTarget, Goes, live}
-use Rattle.sieve_laws.proofs.Cells.{at_same, not_none}
+use Rattle.sieve_laws.proofs.Cells.{not_none}
 use Rattle.sieve_laws.proofs.Live.{live_is, is_live, reaches_live}
 use Rattle.sieve_laws.proofs.Lowering.{leads_once, reaches_once}
 use Rattle.layer_sieve.specs.declared.reaching.Reach.{Reach}
@@ -41,19 +42,19 @@ module _ (zs : List Vector) (next : Layer) (h w : ℕ) where
       IsReach zs next h w None
   reach_end rising to leads cell a reach =
       let same : to ≡ reach.to = leads_once zs rising h w to reach.to leads reach.leads in
-      let other : Some a ≡ None = at_same (slice_get next to) (Some a) None
+      let other : Some a ≡ None = same_value (slice_get next to) (Some a) None
       (ap (slice_get next) same ∙ reach.cell) cell in
       not_none (Some a) a refl other
 
   pub reach_some : (o : Option ℕ) (to : ℕ) → o ≡ Some to → IsTarget zs h w o → Leads zs h w to
   reach_some None to e none = absurd (cc)
-  reach_some (Some j) to e leads = subst (Leads zs h w) (at_same (Some j) j to refl e) leads
+  reach_some (Some j) to e leads = subst (Leads zs h w) (same_value (Some j) j to refl e) leads
 
   -- what is reached
   pub reached : (o : Option Reach) (r : Reach) → o ≡ Some r → IsReach zs next h w o → Reaches zs next h w r.rest
   reached None r e none = absurd (cc)
   reached (Some q) r e (leads, cell) =
-      let same : q ≡ r = at_same (Some q) q r refl e in
+      let same : q ≡ r = same_value (Some q) q r refl e in
       subst (λ (r : Reach). Reaches zs next h w r.rest) same (record { to = q.to; leads = leads; cell = cell })
 
   pub unreached : (o : Option Reach) → o ≡ None → IsReach zs next h w o → (a : ℤ) → Reaches zs next h w a → ⊥
@@ -132,7 +133,7 @@ module _ (zs : List Vector) (rising : is_rising zs ≡ true) (menu : Menu) (next
       here same = at o is other reach
         where
           moves : goes.move ≡ m
-          moves = at_same (slice_get menu n) goes.move m (ap (slice_get menu) (sym same) ∙ goes.there) there
+          moves = same_value (slice_get menu n) goes.move m (ap (slice_get menu) (sym same) ∙ goes.there) there
 
           reach : Reaches zs next m.place w goes.rest
           reach = subst (λ (m : PricedMove). Reaches zs next m.place w goes.rest) moves goes.reach

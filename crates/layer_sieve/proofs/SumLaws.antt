@@ -9,8 +9,9 @@ use Rattle.std.proofs.lemmas.List.{same_lists, get_or-set_same, get_or-set_other
 use Rattle.std.proofs.lemmas.List.Elements.{All-contains}
 use Rattle.std.proofs.lemmas.Option.{slice_get_within, get_or_from_slice_get}
 use Rattle.lattice_theory.specs.Vectors.{Vector, add}
+use Rattle.lattice_laws.proofs.Places.{same_value}
+use Rattle.lattice_laws.proofs.Conformal.{length-add}
 use Rattle.sieve_laws.specs.Sieve.{Leads, IsTarget}
-use Rattle.sieve_laws.proofs.Cells.{at_same}
 use Rattle.layer_sieve.specs.Targets.{IsWord}
 
 pub word_of : (a : ℤ) → FitsSigned w64 a → IsWord a
@@ -20,12 +21,6 @@ word_of (negsuc n) h = (omega (arith, ints, h.sfits), omega (arith, ints))
 pub of_word : (a : ℤ) → IsWord a → FitsSigned w64 a
 of_word (pos n) h = record { sfits = omega (arith, ints, h.1) }
 of_word (negsuc n) h = record { sfits = omega (arith, ints, h.0) }
-
-length-add : (u w : Vector) (n : ℕ) → length u ≡ n → length w ≡ n → length (add u w) ≡ n
-length-add [] w n e f = e
-length-add (a ∷ u) [] n e f = absurd (omega arith)
-length-add (a ∷ u) (b ∷ w) zero e f = absurd (omega arith)
-length-add (a ∷ u) (b ∷ w) (suc n) e f = ap suc (length-add u w n (omega arith) (omega arith))
 
 entry-add : (u w : Vector) (k : ℕ) (d : ℤ) → length u ≡ length w → k < length u →
     get_or (add u w) k d ≡ get_or u k (pos 0) +ℤ get_or w k (pos 0)
@@ -77,8 +72,8 @@ module _ (zs : List Vector) (h w : ℕ) (from by : Vector) (start : slice_get zs
     (move : slice_get zs h ≡ Some by) where
   ends : (j : ℕ) → Leads zs h w j → slice_get zs j ≡ Some (add from by)
   ends j leads =
-      let starts = at_same (slice_get zs w) leads.from from leads.start start in
-      let moves = at_same (slice_get zs h) leads.by by leads.move move in
+      let starts = same_value (slice_get zs w) leads.from from leads.start start in
+      let moves = same_value (slice_get zs h) leads.by by leads.move move in
       leads.end ∙ ap Some (λ k. add (starts k) (moves k))
 
   -- a sum with an entry that no word holds is not listed

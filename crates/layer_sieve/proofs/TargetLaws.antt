@@ -1,5 +1,5 @@
 -- Where moves lead, row by row.
-use Rattle.std.proofs.Common.{◌≡◌, ℕ, ◌+◌, ◌<◌, ◌≤◌, List, [], ◌∷◌, ◌++◌, length, zero, suc, refl, ap, arith, sym, ◌∙◌}
+use Rattle.std.proofs.Common.{◌≡◌, ℕ, ◌+◌, ◌<◌, ◌≤◌, List, [], ◌∷◌, ◌++◌, length, zero, suc, ap, arith, sym, ◌∙◌}
 use Rattle.std.proofs.Common.{Option, Some, None, slice_get, subst, ◌⊎◌, inl, inr, All, get_or}
 use Rattle.std.proofs.lemmas.List.{length-append}
 use Rattle.std.proofs.lemmas.Option.{slice_get_within, slice_get-get_or}
@@ -8,26 +8,10 @@ use Rattle.std.specs.Prelude.{Vec}
 use Rattle.std.specs.declared.alloc.Global.{Global}
 use Rattle.lattice_theory.specs.Vectors.{Vector}
 use Rattle.lattice_theory.specs.SignedSums.{Sum, vectors}
+use Rattle.lattice_laws.proofs.Places.{same_value, slice_get-push}
 use Rattle.sieve_laws.specs.Sieve.{IsTarget}
 use Rattle.brick_sums.specs.Places.{width}
-use Rattle.sieve_laws.proofs.Cells.{at_same}
 use Rattle.layer_sieve.specs.Targets.{IsTargetRow, IsWord, AreTargetsOf}
-
-module _ {A : Type 0} where
-  some_is : (a b : A) → Some a ≡ Some b → a ≡ b
-  some_is a b e = cc
-
-  -- what stands at a place after one more element
-  pub slice_get-push : (xs : List A) (x y : A) (j : ℕ) → slice_get (xs ++ x ∷ []) j ≡ Some y →
-      (slice_get xs j ≡ Some y) ⊎ ((j ≡ length xs) × (x ≡ y))
-  slice_get-push [] x y zero e = inr (refl, some_is x y e)
-  slice_get-push [] x y (suc j) e = absurd (cc)
-  slice_get-push (z ∷ xs) x y zero e = inl e
-  slice_get-push (z ∷ xs) x y (suc j) e = elim (slice_get-push xs x y j e) [
-    | inl before ↦ inl before
-    | inr last ↦
-        inr (ap suc last.0, last.1)
-  ]
 
 -- the targets from the first n sums
 pub record RowUpTo (zs : List Vector) (h : ℕ) (row : List (Option ℕ)) (n : ℕ) : Type 0 where
@@ -98,7 +82,8 @@ rows_all fs rows n kept words widths so_far = record {
 }
 
 -- a move without a row is one of narrow sums
-pub no_row : (fs : List Sum) (rows : List Row) (h : ℕ) → AreTargetsOf fs rows → h < length fs → slice_get rows h ≡ None →
+pub no_row : (fs : List Sum) (rows : List Row) (h : ℕ) → AreTargetsOf fs rows → h < length fs →
+    slice_get rows h ≡ None →
     width fs ≤ 32
 no_row fs rows h are low none = elim are.all [
   | inl same ↦ absurd (none_within rows h (omega (arith, same, low)) none)
@@ -122,7 +107,7 @@ module _ (P : Vector → Type 0) (vs : List Vector) where
     | inl before ↦ so_far j u before there
     | inr high ↦
         let last : j ≡ n = omega (arith, low, high) in
-        subst P (at_same (slice_get vs n) v u here (ap (slice_get vs) (sym last) ∙ there)) holds
+        subst P (same_value (slice_get vs n) v u here (ap (slice_get vs) (sym last) ∙ there)) holds
   ]
 
   pub holds_all : (n : ℕ) → length vs ≤ n → HoldsUpTo n → All P vs

@@ -1,6 +1,6 @@
 -- A move leads from different sums to different places, so the places tell how many moves were tried.
-use Rattle.std.proofs.Common.{◌≡◌, ℕ, ◌+◌, ◌*◌, ◌<◌, ◌≤◌, ℤ, ◌+ℤ◌, true, List, [], ◌∷◌, length, refl, ap}
-use Rattle.std.proofs.Common.{arith, sym, ◌∙◌, Some, ◌⊎◌, inl, inr, All, Contains}
+use Rattle.std.proofs.Common.{◌≡◌, ℕ, ◌+◌, ◌*◌, ◌<◌, ◌≤◌, ℤ, ◌+ℤ◌, true, List, [], ◌∷◌, length, refl, ap, arith, sym}
+use Rattle.std.proofs.Common.{◌∙◌, Some, ◌⊎◌, inl, inr, All, Contains}
 use Rattle.std.proofs.lemmas.Int.{ints}
 use Rattle.std.proofs.lemmas.Bool.{cases_lt}
 use Rattle.std.proofs.lemmas.List.Elements.{All-nil, All-cons, All-contains}
@@ -8,8 +8,8 @@ use Rattle.std.proofs.lemmas.Option.{slice_get_within, get_or_from_slice_get}
 use Rattle.std.proofs.Math.Nat.{mul-le-mul_left}
 use Rattle.std.specs.Prelude.{slice_get}
 use Rattle.lattice_theory.specs.Vectors.{Vector, add, is_rising}
+use Rattle.lattice_laws.proofs.Places.{same_value}
 use Rattle.sieve_laws.specs.Sieve.{Layer, Leads, Reaches, IsAtMost, live}
-use Rattle.sieve_laws.proofs.Cells.{at_same}
 use Rattle.sieve_laws.proofs.Live.{live_is}
 use Rattle.sieve_laws.proofs.Lowering.{one_place}
 use Rattle.layer_sieve.specs.Tried.{AreDifferent, IsTried}
@@ -36,9 +36,9 @@ module _ (zs : List Vector) (rising : is_rising zs ≡ true) (t : ℕ) (widths :
   -- a move leads to a place from one sum
   from_once : (h u w j : ℕ) → Leads zs h u j → Leads zs h w j → u ≡ w
   from_once h u w j one two =
-      let moves : one.by ≡ two.by = at_same (slice_get zs h) one.by two.by one.move two.move in
+      let moves : one.by ≡ two.by = same_value (slice_get zs h) one.by two.by one.move two.move in
       let ends : add one.from one.by ≡ add two.from two.by =
-      at_same (slice_get zs j) (add one.from one.by) (add two.from two.by) one.end two.end in
+      same_value (slice_get zs j) (add one.from one.by) (add two.from two.by) one.end two.end in
       let first = width_at u one.from one.start in
       let second = width_at w two.from two.start in
       let move = width_at h two.by two.move in

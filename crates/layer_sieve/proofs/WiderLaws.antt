@@ -6,12 +6,12 @@ use Rattle.std.proofs.lemmas.Bool.{cases_order}
 use Rattle.std.proofs.lemmas.List.{length-set}
 use Rattle.std.proofs.lemmas.Option.{slice_get_within, slice_get-map, slice_get-get_or}
 use Rattle.lattice_theory.specs.Vectors.{Vector}
+use Rattle.lattice_laws.proofs.Places.{same_value, if_some}
 use Rattle.sieve_laws.specs.Sieve.{Layer, IsTop, AreTops, live, under}
-use Rattle.sieve_laws.proofs.Cells.{at_same, slice_get-set_same, slice_get-set_other}
+use Rattle.sieve_laws.proofs.Cells.{slice_get-set_same, slice_get-set_other}
 use Rattle.sieve_laws.proofs.Live.{live_size}
 use Rattle.sieve_laws.proofs.Tops.{FallsLeast as LowFalls, FallsMost as TopFalls, top_wider}
 use Rattle.layer_sieve.specs.Falls.{AreKept, FallsLeast, FallsMost, IsSpread, IsWider}
-use Rattle.layer_sieve.proofs.FlagLaws.{if_some}
 
 -- the first n bounds are wider, the others as they were
 pub record AreWider (tops : List (Option ℤ)) (spread : Option ℤ) (now : List (Option ℤ)) (n : ℕ) : Type 0 where
@@ -38,7 +38,7 @@ wider_more tops spread now more n top new here is_wider is so_far = record {
         (top : Option ℤ) × (slice_get tops h ≡ Some top) × IsWider top spread wide
     by h wide low there (inl same) =
         let found : new ≡ Some wide =
-        at_same (slice_get more n) new (Some wide)
+        same_value (slice_get more n) new (Some wide)
         (ap (λ ts. slice_get ts n) is ∙ slice_get-set_same now n new (slice_get_within now n top here))
         (ap (slice_get more) (sym same) ∙ there) in (
           top,
@@ -89,7 +89,7 @@ least_all next layer least n all falls w b a before now =
 
 pub some_iff : (o : Option ℤ) (P : Type 0) (v x : ℤ) → SomeIff o P v → o ≡ Some x → x ≡ v
 some_iff None P v x h e = absurd (cc)
-some_iff (Some y) P v x h e = sym (at_same (Some y) y x refl e) ∙ h.1
+some_iff (Some y) P v x h e = sym (same_value (Some y) y x refl e) ∙ h.1
 
 pub spread_some : (o : Option ℤ) (P : Type 0) (next : Layer) (limit : ℤ) (layer : Layer) (least most : ℤ) →
     SomeIff o P (most -ℤ least) →

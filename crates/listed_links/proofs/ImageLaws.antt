@@ -1,16 +1,14 @@
 -- The link matrix, entry by entry and row by row; and that no list of narrow vectors is complete for a wide one.
-use Rattle.std.proofs.Common.{◌≡◌, ℕ, suc, ◌+◌, ◌<◌, ◌≤◌, ◌^◌, ℤ, pos, unsigned_abs, Bool, true, false, ◌&&◌, List, []}
-use Rattle.std.proofs.Common.{◌∷◌, ◌++◌, length, map, take, get_or, refl, ap, arith, sym, ◌∙◌, subst, Contains, Some}
-use Rattle.std.proofs.Common.{slice_get, ◌⊎◌, inl, inr}
-use Rattle.std.specs.List.{All, list_all}
+use Rattle.std.proofs.Common.{◌≡◌, ℕ, ◌+◌, ◌<◌, ◌≤◌, ◌^◌, pos, unsigned_abs, true, false, List, [], ◌∷◌, ◌++◌, length}
+use Rattle.std.proofs.Common.{map, take, get_or, ap, arith, sym, ◌∙◌, subst, Contains, Some, slice_get, inl, inr}
 use Rattle.std.proofs.Common.{length-append}
+use Rattle.std.specs.List.{All}
 use Rattle.std.proofs.lemmas.List.{length-map, map_more, get_or-map, get_or-append-add, get_or_default}
 use Rattle.std.proofs.lemmas.List.Elements.{All-map, All-push, All-contains, Contains-get_or}
 use Rattle.std.proofs.lemmas.Option.{slice_get-get_or, slice_get_within}
-use Rattle.lattice_theory.specs.Lists.{numbers_from}
-use Rattle.lattice_theory.specs.Vectors.{Vector, dot, is_listed, is_rising}
+use Rattle.lattice_theory.specs.Vectors.{Vector, dot}
 use Rattle.lattice_theory.specs.Matrices.{Matrix, element, product, unit_vector}
-use Rattle.lattice_theory.specs.Lattices.{is_complete_for, is_signed_element}
+use Rattle.lattice_theory.specs.Lattices.{is_complete_for}
 use Rattle.lattice_theory.specs.BasisLimits.{IsNarrow}
 use Rattle.lattice_laws.proofs.Tests.{true_or_false}
 use Rattle.run_theory.specs.Links.{link_matrix}

@@ -1,22 +1,19 @@
 -- Rows that stand one after the other in a list of entries, and the generators that a list of elements has.
 use Rattle.std.proofs.Common.{◌≡◌, ℕ, ◌+◌, ◌*◌, ◌<◌, ◌≤◌, ◌^◌, unsigned_abs, Bool, true, false, cond, List, [], ◌∷◌}
-use Rattle.std.proofs.Common.{◌++◌, length, map, take, drop, get_or, refl, ap, arith, sym, ◌∙◌, subst, length-append}
-use Rattle.std.proofs.Common.{append_assoc, Some, slice_get, flat_map}
+use Rattle.std.proofs.Common.{◌++◌, length, map, take, drop, get_or, refl, ap, arith, sym, ◌∙◌, subst, append_assoc}
+use Rattle.std.proofs.Common.{Some, slice_get, flat_map}
 use Rattle.std.specs.List.{All, AllByRecursion, filter}
-use Rattle.std.proofs.lemmas.List.{take_at, drop_at, take_all, take_more, map-append, length-map, append-nil}
-use Rattle.std.proofs.lemmas.List.{length_push}
+use Rattle.std.proofs.lemmas.List.{take_all, take_more, map-append, append-nil, length_push}
 use Rattle.std.proofs.lemmas.List.Elements.{All-map, All-filter, All-weaker, All-take, filter-append}
-use Rattle.std.proofs.lemmas.List.Elements.{recursion_from_All}
 use Rattle.std.proofs.lemmas.Option.{slice_get-get_or, slice_get_within}
 use Rattle.lattice_theory.specs.Vectors.{Vector, is_zero}
 use Rattle.lattice_theory.specs.Matrices.{rows_of}
 use Rattle.lattice_theory.specs.Lattices.{kernel}
 use Rattle.lattice_theory.specs.BasisLimits.{IsNarrow}
+use Rattle.lattice_laws.proofs.VectorLists.{length-flat, rows_of-flat}
+use Rattle.lattice_laws.specs.VectorLists.{flat}
 
 -- ---- rows one after the other
-
-abbrev flat : List Vector → Vector
-flat rows = flat_map (λ row. row) rows
 
 -- so many rows of cols entries, which stand one after the other in the entries
 pub record Stands (cols : ℕ) (list : List Vector) (rows : ℕ) (entries : Vector) : Type 0 where
@@ -46,30 +43,16 @@ stands-push cols list rows entries longer v so_far is wide = record {
   widths = widths_push cols list v so_far.widths wide;
 }
 
-flat_length : (cols : ℕ) (rows : List Vector) → AllByRecursion (λ row. length row ≡ cols) rows →
-    length (flat rows) ≡ length rows * cols
-flat_length cols [] all = omega arith
-flat_length cols (row ∷ rows) all = omega (arith, length-append row (flat rows), flat_length cols rows all.1, all.0)
-
-flat_rows : (cols : ℕ) (rows : List Vector) → AllByRecursion (λ row. length row ≡ cols) rows →
-    rows_of (length rows) cols (flat rows) ≡ rows
-flat_rows cols [] all = refl
-flat_rows cols (row ∷ rows) all =
-    let head : take cols (row ++ flat rows) ≡ row = take_at row (flat rows) cols all.0 in
-    let tail : rows_of (length rows) cols (drop cols (row ++ flat rows)) ≡ rows =
-    ap (rows_of (length rows) cols) (drop_at row (flat rows) cols all.0) ∙ flat_rows cols rows all.1 in
-    λ i. head i ∷ tail i
-
 -- the entries are as many as a matrix wants, and its rows are the list
 pub stands-length : (cols : ℕ) (list : List Vector) (rows : ℕ) (entries : Vector) → Stands cols list rows entries →
     length entries ≡ rows * cols
 stands-length cols list rows entries all =
-    ap length all.entries_are ∙ flat_length cols list all.widths ∙ ap (λ n. n * cols) (sym all.count)
+    ap length all.entries_are ∙ length-flat cols list all.widths ∙ ap (λ n. n * cols) (sym all.count)
 
 pub stands-rows : (cols : ℕ) (list : List Vector) (rows : ℕ) (entries : Vector) → Stands cols list rows entries →
     rows_of rows cols entries ≡ list
 stands-rows cols list rows entries all =
-    (λ i. rows_of (all.count i) cols (all.entries_are i)) ∙ flat_rows cols list all.widths
+    (λ i. rows_of (all.count i) cols (all.entries_are i)) ∙ rows_of-flat cols list all.widths
 
 -- ---- generators
 
@@ -134,14 +117,3 @@ kernel-narrow cols elements narrow =
     (All-weaker IsNarrow (λ z. IsNarrow (take cols z)) (λ z k. All-take (λ a. unsigned_abs a < 2 ^ 31) cols z k)
     (filter (λ z. is_zero (drop cols z)) elements)
     (All-filter (λ z. is_zero (drop cols z)) IsNarrow elements narrow))
-
-pub few-kernel : (cols : ℕ) (elements : List Vector) → length (kernel cols elements) ≤ length elements
-few-kernel cols [] = omega arith
-few-kernel cols (z ∷ elements) = by (is_zero (drop cols z)) (few-kernel cols elements)
-  where
-    by : (b : Bool) → length (kernel cols elements) ≤ length elements →
-        length (map (take cols)
-        (cond b (z ∷ filter (λ v. is_zero (drop cols v)) elements)
-        (filter (λ v. is_zero (drop cols v)) elements))) ≤ length (z ∷ elements)
-    by true few = omega (arith, few)
-    by false few = omega (arith, few)

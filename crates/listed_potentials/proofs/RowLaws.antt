@@ -1,24 +1,24 @@
 -- Lists that are made one after the other, and facts of one brick.
-use Rattle.std.proofs.Common.{◌≡◌, ℕ, zero, suc, ◌+◌, ◌-◌, ◌<◌, ◌≤◌, ◌^◌, ℤ, ◌-ℤ◌, ◌≤ℤ◌, unsigned_abs, Bool, true}
-use Rattle.std.proofs.Common.{false, not, ◌&&◌, List, [], ◌∷◌, ◌++◌, length, map, take, drop, get_or, Option, Some}
-use Rattle.std.proofs.Common.{None, cond, refl, ap, arith, sym, ◌∙◌, subst, slice_get, option_map, All, IfSome, pos}
+use Rattle.std.proofs.Common.{◌≡◌, ℕ, zero, suc, ◌+◌, ◌<◌, ◌≤◌, ◌^◌, ℤ, ◌-ℤ◌, unsigned_abs, Bool, true, false, ◌&&◌}
+use Rattle.std.proofs.Common.{List, [], ◌∷◌, ◌++◌, length, map, take, drop, get_or, Option, Some, None, cond, refl, ap}
+use Rattle.std.proofs.Common.{arith, sym, ◌∙◌, subst, slice_get, option_map, All, IfSome, pos}
 use Rattle.std.proofs.lemmas.Int.{ints}
 use Rattle.std.proofs.lemmas.List.{drop_all, take_all, take_more, map_more, map_push, length-map, get_or-map}
 use Rattle.std.proofs.lemmas.List.Elements.{All-push, All-from_recursion, recursion_from_All}
 use Rattle.std.proofs.lemmas.Option.{slice_get-get_or, slice_get_within, slice_get-map, get_or_from_slice_get}
 use Rattle.fold_theory.specs.declared.Phase.{Phase}
 use Rattle.fold_theory.specs.declared.Phase.TheVariants.{Closed}
-use Rattle.lattice_theory.specs.Lists.{all_zip, zip_with}
+use Rattle.lattice_theory.specs.Lists.{all_zip}
 use Rattle.lattice_theory.specs.Vectors.{Vector, add, zeros}
 use Rattle.std.specs.List.{AllZip, AllByRecursion}
 use Rattle.fold_theory.specs.Programs.{Program, Brick, Bricks, IsWithin, is_within, brick_cost}
 use Rattle.run_theory.specs.Walks.{brick_change}
 use Rattle.run_theory.specs.Checker.{at_most, potential_of, layers_hold, starts_at_zero}
+use Rattle.lattice_laws.proofs.Places.{drop-at, if_some}
 use Rattle.listed_sums.specs.Places.{place_in, vectors_of}
 use Rattle.listed_sums.proofs.RowLaws.{length-vectors_of}
 use Rattle.fold_program.specs.Places.{OfBrick}
 use Rattle.fold_program.specs.Refusals.{brick_magnitude, total_magnitude}
-use Rattle.complete_lists.proofs.ScanLaws.{drop-at}
 use Rattle.listed_potentials.specs.Moves.{change_of, changes_of, all_changes, places_of, there, move_holds, row_holds}
 use Rattle.listed_potentials.specs.Columns.{cell, column_holds, columns_hold}
 use Rattle.listed_potentials.specs.Ends.{ends_hold}
@@ -167,10 +167,6 @@ pub leads_to : (places : List (Option ℕ)) (next : List (Option ℤ)) (i at : �
     at < length next → there next (get_or places i None) ≡ Some (get_or next at None)
 leads_to places next i at is low = ap (there next) is ∙ slice_get-get_or next at None low
 
--- a fact of a cell, where there is one
-pub if_some : {A : Type 0} (P : A → Type 0) (o : Option A) (a : A) → IfSome o P → o ≡ Some a → P a
-if_some P o a holds is = subst (λ x. IfSome x P) is holds
-
 -- the image of what is read at a place
 pub image-read : {A B : Type 0} (f : A → B) (xs : List A) (i : ℕ) (x : A) → i < length xs → x ≡ get_or xs i x →
     slice_get (map f xs) i ≡ Some (f x)
@@ -184,7 +180,7 @@ pub cell-read : (rows : List (List (Option ℤ))) (i j : ℕ) (here : Option ℤ
 cell-read rows i j here low read =
     let row = get_or rows i [] in
     let there = slice_get-get_or rows i [] low in
-    let is = if_some (λ cells. slice_get cells j ≡ Some here) (slice_get rows i) row read there in
+    let is = if_some (λ cells. slice_get cells j ≡ Some here) (slice_get rows i) row there read in
     (row, there, get_or_from_slice_get row j here None is)
 
 -- the last row of the table

@@ -1,7 +1,6 @@
 -- The layers of a table hold where each sum holds in all layers, and each end does.
-use Rattle.std.proofs.Common.{◌≡◌, ℕ, zero, suc, ◌+◌, ◌<◌, ◌≤◌, ℤ, Bool, true, false, not, ◌&&◌, ◌||◌, cond, List, []}
-use Rattle.std.proofs.Common.{◌∷◌, length, map, drop, get_or, subst, Option, Some, None, refl, ap, arith, sym, ◌∙◌}
-use Rattle.std.proofs.Common.{slice_get}
+use Rattle.std.proofs.Common.{◌≡◌, ℕ, suc, ◌+◌, ◌<◌, ℤ, Bool, true, false, not, ◌&&◌, ◌||◌, cond, List, [], ◌∷◌, length}
+use Rattle.std.proofs.Common.{map, drop, Option, Some, None, refl, ap, arith, sym, ◌∙◌}
 use Rattle.std.specs.List.{AllByRecursion, list_all}
 use Rattle.std.specs.Option.{option_map}
 use Rattle.std.proofs.Math.Seq.{drop-cons}
@@ -12,6 +11,7 @@ use Rattle.lattice_theory.specs.Vectors.{Vector, add, same}
 use Rattle.fold_theory.specs.Programs.{Program, Brick, Bricks, is_within}
 use Rattle.run_theory.specs.Walks.{brick_change}
 use Rattle.run_theory.specs.Checker.{at_most, plus, potential_of, layer_holds, layers_hold}
+use Rattle.lattice_laws.proofs.Tests.{and-interchange}
 use Rattle.listed_sums.specs.Places.{place_in}
 use Rattle.listed_potentials.specs.Moves.{change_of, changes_of, all_changes, places_of, there, move_holds, row_holds}
 use Rattle.listed_potentials.specs.Columns.{cell, column_holds, columns_hold}
@@ -101,12 +101,6 @@ module _ (phase : Phase) (zs : List Vector) (b : Brick) (v : Vector) (next : Lis
 
 -- ---- all layers
 
-swapped : (a b c d : Bool) → ((a && b) && (c && d)) ≡ ((a && c) && (b && d))
-swapped true true c d = refl
-swapped true false true d = refl
-swapped true false false d = refl
-swapped false b c d = refl
-
 -- the first layer, and the others
 columns-split : (phase : Phase) (zs : List Vector) (b : Brick) (v : Vector) (more : List (List (Option ℤ)))
     (row next : List (Option ℤ)) (rows : List (List (Option ℤ))) (size : length next ≡ length zs) (j : ℕ)
@@ -118,7 +112,7 @@ columns-split phase zs b v more row next rows size j (w ∷ ws) =
     ap (λ t. (row_holds (cell row j) (changes_of phase zs b v) (places_of zs w) next && column_holds more
     (places_of zs w) j (next ∷ rows)) && t)
     (columns-split phase zs b v more row next rows size (suc j) ws)
-    ∙ swapped (row_holds (cell row j) (changes_of phase zs b v) (places_of zs w) next)
+    ∙ and-interchange (row_holds (cell row j) (changes_of phase zs b v) (places_of zs w) next)
     (column_holds more (places_of zs w) j (next ∷ rows))
     (rows_hold phase zs b v next size row (suc j) ws) (columns_hold more zs (next ∷ rows) (suc j) ws)
 

@@ -10,6 +10,7 @@ use Rattle.std.proofs.lemmas.Option.{slice_get_within, get_or_from_slice_get}
 use Rattle.lattice_theory.specs.Vectors.{Vector, lex_cmp, lex_less, is_rising, same}
 use Rattle.lattice_laws.proofs.Tests.{same_true, same_refl, true_or_false}
 use Rattle.lattice_laws.proofs.Rising.{lex_total, lex_less_trans, lex_less_irrefl, rising_tail, rising_above}
+use Rattle.lattice_laws.proofs.Rising.{rising_places}
 use Rattle.listed_sums.specs.Places.{place_in}
 
 -- ---- the order
@@ -19,18 +20,6 @@ less_is u v is = ap is_lt is
 
 pub greater_is : (u v : Vector) → lex_cmp u v ≡ Greater → lex_less v u ≡ true
 greater_is u v is = ap is_lt (lex_total.antisymm v u ∙ ap ordering_reverse is)
-
--- earlier members are less
-pub rising-at : (zs : List Vector) (i j : ℕ) (u v : Vector) → is_rising zs ≡ true → i < j → slice_get zs i ≡ Some u →
-    slice_get zs j ≡ Some v → lex_less u v ≡ true
-rising-at [] i j u v rising before here there = absurd (cc)
-rising-at (z ∷ zs) i zero u v rising before here there = absurd (omega arith)
-rising-at (z ∷ zs) zero (suc j) u v rising before here there =
-    let same : z ≡ u = cc in
-    subst (λ x. lex_less x v ≡ true) same
-    (rising_above z zs v rising (j, slice_get_within zs j v there, get_or_from_slice_get zs j v v there))
-rising-at (z ∷ zs) (suc i) (suc j) u v rising before here there =
-    rising-at zs i j u v (rising_tail z zs rising) (omega arith) here there
 
 -- ---- the place
 
@@ -76,11 +65,15 @@ between-all zs w n all = record {
   upto = omega arith;
 }
 
+-- at one place there is one member
+at_one : (zs : List Vector) (i j : ℕ) (u v : Vector) → i ≡ j → slice_get zs i ≡ Some u → slice_get zs j ≡ Some v → u ≡ v
+at_one zs i j u v place there here = cc
+
 pub between-less : (zs : List Vector) (w : Vector) (low high middle : ℕ) (m : Vector) → is_rising zs ≡ true →
     Between zs w low high → slice_get zs middle ≡ Some m → lex_cmp m w ≡ Less → Between zs w (middle + 1) high
 between-less zs w low high middle m rising b here is = record {
   less = λ k v before there. elim (cases_lt k middle) [
-    | inl earlier ↦ lex_less_trans v m w (rising-at zs k middle v m rising earlier there here) (less_is m w is)
+    | inl earlier ↦ lex_less_trans v m w (rising_places zs k middle v m rising earlier there here) (less_is m w is)
     | inr at ↦
         let place : k ≡ middle = omega arith in
         let same : v ≡ m = at_one zs k middle v m place there here in
@@ -89,17 +82,13 @@ between-less zs w low high middle m rising b here is = record {
   greater = b.greater;
   upto = b.upto;
 }
-  where
-    at_one : (zs : List Vector) (i j : ℕ) (u v : Vector) → i ≡ j → slice_get zs i ≡ Some u → slice_get zs j ≡ Some v →
-        u ≡ v
-    at_one zs i j u v place there here = cc
 
 pub between-greater : (zs : List Vector) (w : Vector) (low high middle : ℕ) (m : Vector) → is_rising zs ≡ true →
     Between zs w low high → slice_get zs middle ≡ Some m → lex_cmp m w ≡ Greater → Between zs w low middle
 between-greater zs w low high middle m rising b here is = record {
   less = b.less;
   greater = λ k v past there. elim (cases_lt middle k) [
-    | inl later ↦ lex_less_trans w m v (greater_is m w is) (rising-at zs middle k m v rising later here there)
+    | inl later ↦ lex_less_trans w m v (greater_is m w is) (rising_places zs middle k m v rising later here there)
     | inr at ↦
         let place : k ≡ middle = omega arith in
         let same : v ≡ m = at_one zs k middle v m place there here in
@@ -107,10 +96,6 @@ between-greater zs w low high middle m rising b here is = record {
   ];
   upto = omega (arith, slice_get_within zs middle m here);
 }
-  where
-    at_one : (zs : List Vector) (i j : ℕ) (u v : Vector) → i ≡ j → slice_get zs i ≡ Some u → slice_get zs j ≡ Some v →
-        u ≡ v
-    at_one zs i j u v place there here = cc
 
 -- equal is the member itself
 pub found_there : (zs : List Vector) (w : Vector) (middle : ℕ) (m : Vector) → is_rising zs ≡ true →

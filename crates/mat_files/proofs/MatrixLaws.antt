@@ -6,10 +6,6 @@ use Rattle.std.specs.List.{AllByRecursion}
 use Rattle.lattice_theory.specs.Vectors.{Vector}
 use Rattle.lattice_theory.specs.Matrices.{rows_of}
 
-pub length_rows_of : (n cols : ℕ) (entries : Vector) → length (rows_of n cols entries) ≡ n
-length_rows_of zero cols entries = refl
-length_rows_of (suc n) cols entries = ap suc (length_rows_of n cols (drop cols entries))
-
 -- row i is the entries from i times the number of columns on
 pub row_of_rows : (n cols : ℕ) (entries : Vector) (i : ℕ) → i < n → slice_get (rows_of n cols entries) i ≡ Some
     (take cols (drop (i * cols) entries))

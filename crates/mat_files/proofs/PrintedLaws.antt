@@ -14,8 +14,7 @@ use Rattle.mat_files.specs.declared.fault.FaultKind.{FaultKind}
 use Rattle.mat_files.specs.declared.fault.TokenFault.{TokenFault}
 use Rattle.mat_files.specs.Tokens.{is_white, Token, Left, tokens_from, and_then}
 use Rattle.mat_files.specs.Reading.{Read, word_at, number_at, size_at, count_at, next_by, next_word, next_number}
-use Rattle.mat_files.specs.Reading.{next_size}
-use Rattle.mat_files.specs.Reading.{next_count, repeated, next_matrix, none_of, only}
+use Rattle.mat_files.specs.Reading.{next_size, next_count, repeated, next_matrix, none_of, only}
 use Rattle.mat_files.specs.MatrixText.{row_text}
 use Rattle.mat_files.proofs.PrintingLaws.{line}
 use Rattle.mat_files.proofs.WordLaws.{IsWord, first_word, printed_count, printed_number}

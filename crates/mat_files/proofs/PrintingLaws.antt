@@ -1,7 +1,6 @@
 -- What is written line by line, and word by word. The crates above may cite this file.
 use Rattle.std.proofs.Common.{◌≡◌, ℕ, zero, suc, ◌+◌, ◌<◌, ◌≤◌, List, [], ◌∷◌, ◌++◌, length, get_or, take, map}
-use Rattle.std.proofs.Common.{flat_map, Some}
-use Rattle.std.proofs.Common.{slice_get, refl, ap, sym, ◌∙◌, append_assoc, arith, All, below_more}
+use Rattle.std.proofs.Common.{flat_map, Some, slice_get, refl, ap, sym, ◌∙◌, append_assoc, arith, All, below_more}
 use Rattle.std.specs.List.{join_with_byte}
 use Rattle.std.proofs.lemmas.List.{map_push, take_more, append-nil}
 use Rattle.std.proofs.Math.Seq.{take-length}

@@ -1,6 +1,6 @@
 -- What is written of a matrix is read again.
-use Rattle.std.proofs.Common.{◌≡◌, ◌^◌, ◌<◌, unsigned_abs, [], ◌∷◌, ◌++◌, length, flat_map, Ok, refl, ap}
-use Rattle.std.proofs.Common.{append_assoc, arith, subst, sym, get_or, All, FitsSigned}
+use Rattle.std.proofs.Common.{◌≡◌, ◌^◌, ◌<◌, unsigned_abs, [], ◌∷◌, ◌++◌, length, flat_map, Ok, refl, ap, append_assoc}
+use Rattle.std.proofs.Common.{arith, subst, sym, get_or, All, FitsSigned}
 use Rattle.std.specs.Int.{w64}
 use Rattle.std.specs.Fmt.{decimal}
 use Rattle.std.proofs.lemmas.Int.{ints}

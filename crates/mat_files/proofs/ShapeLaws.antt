@@ -1,12 +1,13 @@
 -- What is read is as small and as many as was asked for. The crates above may cite this file.
 use Rattle.std.proofs.Common.{◌≡◌, ℕ, zero, suc, ◌*◌, ◌^◌, ◌≤◌, ℤ, pos, negsuc, unsigned_abs, Bool, true, false, ◌&&◌}
-use Rattle.std.proofs.Common.{leb, nat_le, int_le, cond, List, [], ◌++◌, length, take, drop, Option, Some, None}
-use Rattle.std.proofs.Common.{Result, Ok, Err, All, refl, ap, subst, ◌∙◌, sym, arith, codes}
+use Rattle.std.proofs.Common.{leb, nat_le, int_le, cond, List, [], ◌++◌, length, take, drop, Option, Some, None, Result}
+use Rattle.std.proofs.Common.{Ok, Err, All, refl, ap, subst, ◌∙◌, sym, arith, codes}
 use Rattle.std.specs.Str.{bytes_eq}
-use Rattle.std.proofs.lemmas.Bool.{leb-true}
+use Rattle.std.proofs.lemmas.Bool.{leb-true, and_parts}
 use Rattle.std.proofs.lemmas.List.Elements.{All-nil, All-cons, All-take, All-drop, All-from_recursion}
 use Rattle.lattice_theory.specs.Vectors.{Vector}
 use Rattle.lattice_theory.specs.Matrices.{Matrix, rows_of}
+use Rattle.lattice_laws.proofs.VectorLists.{length_rows_of}
 use Rattle.mat_files.specs.declared.shape.Shape.{Shape}
 use Rattle.mat_files.specs.declared.fault.FaultKind.{FaultKind}
 use Rattle.mat_files.specs.declared.fault.FaultKind.TheVariants as kind
@@ -16,7 +17,7 @@ use Rattle.mat_files.specs.Reading.{refused, number_at, size_at, count_at, next_
 use Rattle.mat_files.specs.Reading.{next_count, repeated, none_of, only, IsAdded}
 use Rattle.mat_files.specs.MatrixText.{next_shaped, mat_answer, parsed_matrix, Admits}
 use Rattle.mat_files.proofs.RepeatLaws.{both_ok, same_ok, repeated_many, repeated_all}
-use Rattle.mat_files.proofs.MatrixLaws.{length_rows_of, even_rows}
+use Rattle.mat_files.proofs.MatrixLaws.{even_rows}
 
 -- ---- tests
 
@@ -31,10 +32,6 @@ pub accepted : {A E : Type 0} (test : Bool) (x a : A) (f : E) → cond test (Ok 
     → (test ≡ true) × (x ≡ a)
 accepted true x a f is = (refl, cc)
 accepted false x a f is = absurd (cc)
-
-both_true : (a b : Bool) → (a && b) ≡ true → (a ≡ true) × (b ≡ true)
-both_true true b is = (refl, is)
-both_true false b is = absurd (cc)
 
 -- ---- tokens
 
@@ -60,7 +57,7 @@ number_at_small largest t a is =
 size_between : (from to : ℕ) (a : ℤ) → (int_le (pos from) a && int_le a (pos to)) ≡ true
     → (from ≤ unsigned_abs a) × (unsigned_abs a ≤ to)
 size_between from to (pos n) is =
-    let both = both_true (leb from n) (leb n to) is in (leb-true from n both.0, leb-true n to both.1)
+    let both = and_parts (leb from n) (leb n to) is in (leb-true from n both.0, leb-true n to both.1)
 size_between from to (negsuc n) is = absurd (cc)
 
 pub size_at_within : (from to : ℕ) (t : Token) (n : ℕ) → size_at from to t ≡ Ok n → (from ≤ n) × (n ≤ to)
@@ -82,7 +79,7 @@ counted_within : (from to : ℕ) (outside : FaultKind) (at : ℕ) (spelled : Opt
 counted_within from to outside at None n is = absurd (cc)
 counted_within from to outside at (Some m) n is =
     let inside = accepted (nat_le from m && nat_le m to) m n _ is in
-    let both = both_true (leb from m) (leb m to) inside.0 in
+    let both = and_parts (leb from m) (leb m to) inside.0 in
     subst (λ (k : ℕ). (from ≤ k) × (k ≤ to)) inside.1 (leb-true from m both.0, leb-true m to both.1)
 
 pub count_at_within : (from to : ℕ) (outside : FaultKind) (t : Token) (n : ℕ) → count_at from to outside t ≡ Ok n

@@ -1,12 +1,11 @@
 -- Words in a text, and the numbers that printed words spell. The crates above may cite this file.
 use Rattle.std.proofs.Common.{◌≡◌, ℕ, suc, ◌+◌, ◌-◌, ◌*◌, ◌/◌, ◌%◌, ◌^◌, ◌<◌, ◌≤◌, ℤ, pos, negsuc, neg_ℤ, unsigned_abs}
-use Rattle.std.proofs.Common.{Bool}
-use Rattle.std.proofs.Common.{true, false, not, eqb, leb, ◌&&◌, List, [], ◌∷◌, ◌++◌, length, Some, refl, ap, ◌∙◌}
-use Rattle.std.proofs.Common.{subst, arith, codes}
+use Rattle.std.proofs.Common.{true, false, not, eqb, leb, List, [], ◌∷◌, ◌++◌, length, Some, refl, ap, ◌∙◌, subst}
+use Rattle.std.proofs.Common.{arith, codes}
 use Rattle.std.specs.Fmt.{decimal, signed_decimal}
 use Rattle.std.specs.List.{fold, list_all}
 use Rattle.std.specs.Str.{bytes_eq}
-use Rattle.std.proofs.lemmas.Bool.{le-leb, leb-true, ne_eqb}
+use Rattle.std.proofs.lemmas.Bool.{le-leb, leb-true, ne_eqb, and_parts, not-true}
 use Rattle.std.proofs.lemmas.Bool.Decides.{nat_tests}
 use Rattle.std.proofs.lemmas.Fmt.{decimal_by_steps_wide}
 use Rattle.std.proofs.lemmas.List.{length-append}
@@ -24,16 +23,6 @@ pub record IsWord (text : List ℕ) : Type 0 where
 pub word_of : (text : List ℕ) → 0 < length text → list_all (λ b. not (is_white b)) text ≡ true → IsWord text
 word_of text some black = record { some = some; black = black }
 
--- both tests pass
-both_of : (a b : Bool) → (a && b) ≡ true → (a ≡ true) × (b ≡ true)
-both_of true b e = (refl, e)
-both_of false b e = absurd cc
-
--- the test fails
-not_so : (b : Bool) → not b ≡ true → b ≡ false
-not_so true e = absurd cc
-not_so false e = refl
-
 -- one byte more before a token
 one_byte_more : (n b d : ℕ) (text bytes : List ℕ) (tokens : List Token) → is_white b ≡ false → is_white d ≡ false
     → tokens_from (suc n) (d ∷ bytes) ≡ record { at = suc n; text = text } ∷ tokens
@@ -50,16 +39,16 @@ pub first_word : (text : List ℕ) (n white : ℕ) (rest : List ℕ) → IsWord 
     → (k : ℕ) × (tokens_from n (text ++ white ∷ rest) ≡ record { at = n; text = text } ∷ tokens_from k rest)
 first_word [] n white rest word space = absurd (let some : 0 < 0 = word.some in omega arith)
 first_word (b ∷ []) n white rest word space =
-    let black = not_so (is_white b) (both_of (not (is_white b)) true word.black).0 in
+    let black = not-true (is_white b) (and_parts (not (is_white b)) true word.black).0 in
     (suc (suc n), rw (black, space) refl)
 first_word (b ∷ d ∷ text) n white rest word space =
-    let black = both_of (not (is_white b)) (list_all (λ x. not (is_white x)) (d ∷ text)) word.black in
-    let none = not_so (is_white b) black.0 in
-    let next = both_of (not (is_white d)) (list_all (λ x. not (is_white x)) text) black.1 in
+    let black = and_parts (not (is_white b)) (list_all (λ x. not (is_white x)) (d ∷ text)) word.black in
+    let none = not-true (is_white b) black.0 in
+    let next = and_parts (not (is_white d)) (list_all (λ x. not (is_white x)) text) black.1 in
     let later = first_word (d ∷ text) (suc n) white rest (record { some = omega arith; black = black.1 }) space in (
       later.0,
       one_byte_more n b d (d ∷ text) (text ++ white ∷ rest) (tokens_from later.0 rest) none
-          (not_so (is_white d) next.0) later.1,
+          (not-true (is_white d) next.0) later.1,
     )
 
 -- ---- printed digits
@@ -86,7 +75,7 @@ digits-push : (ds : List ℕ) (d : ℕ) → list_all is_digit ds ≡ true → is
     → list_all is_digit (ds ++ d ∷ []) ≡ true
 digits-push [] d all digit = rw digit refl
 digits-push (b ∷ ds) d all digit =
-    let both = both_of (is_digit b) (list_all is_digit ds) all in rw (both.0, digits-push ds d both.1 digit) refl
+    let both = and_parts (is_digit b) (list_all is_digit ds) all in rw (both.0, digits-push ds d both.1 digit) refl
 
 value-push : (ds : List ℕ) (d n : ℕ)
     → fold (λ m b. 10 * m + (b - 48)) n (ds ++ d ∷ []) ≡ 10 * fold (λ m b. 10 * m + (b - 48)) n ds + (d - 48)
@@ -121,7 +110,7 @@ pub record SpellsNumber (text : List ℕ) (a : ℤ) : Type 0 where
 plain_digit : (b : ℕ) → is_digit b ≡ true
     → (is_white b ≡ false) × (eqb b 42 ≡ false) × (eqb b 43 ≡ false) × (eqb b 45 ≡ false)
 plain_digit b digit =
-    let range = both_of (leb 48 b) (leb b 57) digit in
+    let range = and_parts (leb 48 b) (leb b 57) digit in
     let low : 48 ≤ b = leb-true 48 b range.0 in
     let high : b ≤ 57 = leb-true b 57 range.1 in
     (grind (arith, nat_tests), ne_eqb b 42 (omega arith), ne_eqb b 43 (omega arith), ne_eqb b 45 (omega arith))
@@ -130,7 +119,7 @@ plain_digit b digit =
 black_digits : (ds : List ℕ) → list_all is_digit ds ≡ true → list_all (λ b. not (is_white b)) ds ≡ true
 black_digits [] all = refl
 black_digits (d ∷ ds) all =
-    let both = both_of (is_digit d) (list_all is_digit ds) all in
+    let both = and_parts (is_digit d) (list_all is_digit ds) all in
     let plain = plain_digit d both.0 in
     rw (plain.0, black_digits ds both.1) refl
 
@@ -138,7 +127,7 @@ black_digits (d ∷ ds) all =
 digits_count : (ds : List ℕ) → 0 < length ds → list_all is_digit ds ≡ true → SpellsCount ds (digits_value ds)
 digits_count [] some all = absurd (omega arith)
 digits_count (d ∷ ds) some all =
-    let plain = plain_digit d (both_of (is_digit d) (list_all is_digit ds) all).0 in
+    let plain = plain_digit d (and_parts (is_digit d) (list_all is_digit ds) all).0 in
     record {
       word = record { some = some; black = black_digits (d ∷ ds) all };
       spelled = rw (plain.2, all) refl;
@@ -148,7 +137,7 @@ digits_count (d ∷ ds) some all =
 digits_number : (ds : List ℕ) → 0 < length ds → list_all is_digit ds ≡ true → SpellsNumber ds (pos (digits_value ds))
 digits_number [] some all = absurd (omega arith)
 digits_number (d ∷ ds) some all =
-    let plain = plain_digit d (both_of (is_digit d) (list_all is_digit ds) all).0 in
+    let plain = plain_digit d (and_parts (is_digit d) (list_all is_digit ds) all).0 in
     record {
       word = record { some = some; black = black_digits (d ∷ ds) all };
       no_star = rw plain.1 refl;

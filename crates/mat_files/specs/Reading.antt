@@ -1,8 +1,7 @@
 -- Reading a text token by token: a reader takes what is left of the text to a value and what is left then, or to the
 -- fault of the first token that is refused.
 use Rattle.std.specs.Prelude.{◌≡◌, ℕ, zero, suc, ◌*◌, ◌^◌, ◌⊎◌, ℤ, pos, unsigned_abs, int_le, nat_le, ◌&&◌, List, []}
-use Rattle.std.specs.Prelude.{◌∷◌}
-use Rattle.std.specs.Prelude.{◌++◌, cond, Some, None, Result, Ok, Err, MatchResult, bytes_eq, codes}
+use Rattle.std.specs.Prelude.{◌∷◌, ◌++◌, cond, Some, None, Result, Ok, Err, MatchResult, bytes_eq, codes}
 use Rattle.lattice_theory.specs.Matrices.{Matrix, rows_of}
 use Rattle.mat_files.specs.declared.fault.FaultKind.{FaultKind}
 use Rattle.mat_files.specs.declared.fault.FaultKind.TheVariants as kind

@@ -38,7 +38,7 @@ impl Matrix {
     }
 
     /// How many rows there are.
-    #[tactic(auto, using(crate::proofs::MatrixLaws::length_rows_of))]
+    #[tactic(auto, using(lattice_laws::proofs::VectorLists::length_rows_of))]
     pub fn rows(&self) -> u32
         ensures { result ≡ length self.now.rows }
     {
@@ -54,7 +54,7 @@ impl Matrix {
     }
 
     /// The entries of one row.
-    #[tactic(auto, using(crate::proofs::MatrixLaws::length_rows_of))]
+    #[tactic(auto, using(lattice_laws::proofs::VectorLists::length_rows_of))]
     pub fn row(&self, row: u32) -> &[i64]
         requires from { 1 ≤ row }
         requires to { row ≤ length self.now.rows }

@@ -1,4 +1,5 @@
-//! The program `nfold`: its words come from the system, its files lie in the current folder, and its texts go to the two
+//! The program `nfold`: its words come from the system, its files lie in the current folder, and its texts go to the
+//! two
 //! standard streams. It ends with the number of the status, and with 8 where the system refuses the words.
 #![tactic(auto)]
 

@@ -1,6 +1,6 @@
 -- The answer to a form is its ending, or names a file that could not be read.
-use Rattle.std.proofs.Common.{◌≡◌, ◌≢◌, ℕ, ◌⊎◌, Bool, List, [], ◌∷◌, ◌++◌, cond, Option, Some, None, Result}
-use Rattle.std.proofs.Common.{Ok, Err, IfOk, refl, ap, sym, subst, ◌∙◌, inl, inr}
+use Rattle.std.proofs.Common.{◌≡◌, ◌≢◌, ℕ, ◌⊎◌, Bool, List, [], ◌∷◌, ◌++◌, cond, Option, Some, None, Result, Ok, Err}
+use Rattle.std.proofs.Common.{IfOk, refl, ap, sym, subst, ◌∙◌, inl, inr}
 use Rattle.std.specs.Str.{bytes_eq}
 use Rattle.std.proofs.lemmas.Bool.{cases_Bool}
 use Rattle.fold_shelf.specs.Outside.{File, Folder, file_named, without, ForTold, IsTold, ReadFailed, IsMissing}
@@ -14,8 +14,8 @@ use Rattle.nfold_cli.specs.declared.status.Status.{Status}
 use Rattle.nfold_cli.specs.declared.status.Status.TheVariants as status
 use Rattle.nfold_cli.specs.Texts.{usage_text}
 use Rattle.nfold_cli.specs.Words.{FormValue}
-use Rattle.nfold_cli.specs.Endings.{Ending, ending, IsWritten, input_ending, read_ending}
-use Rattle.nfold_cli.specs.Endings.{fault_file, fault_text, fault_ending, IsEndingOf}
+use Rattle.nfold_cli.specs.Endings.{Ending, ending, IsWritten, input_ending, read_ending, fault_file, fault_text}
+use Rattle.nfold_cli.specs.Endings.{fault_ending, IsEndingOf}
 use Rattle.nfold_cli.specs.Forms.{IsFormEnding, IsTrueEnd, stored_by}
 use Rattle.nfold_cli.specs.Answers.{IsToldAnswer, IsOfCommand, IsStoredAs, IsAnswer, IsRefusalOf}
 

@@ -21,8 +21,8 @@ use Rattle.nfold_cli.specs.Words.{Word, TrialForm}
 use Rattle.nfold_cli.specs.Endings.{Ending}
 use Rattle.nfold_cli.specs.PointCommand.{broken_status, verdict_ending}
 use Rattle.nfold_cli.specs.GraverCommand.{IsKernelEnding}
-use Rattle.nfold_cli.specs.SolveCommand.{caps_of, certificate_name, limit_ending, solved_ending}
-use Rattle.nfold_cli.specs.SolveCommand.{IsEndingWithin, IsSolveEnding}
+use Rattle.nfold_cli.specs.SolveCommand.{caps_of, certificate_name, limit_ending, solved_ending, IsEndingWithin}
+use Rattle.nfold_cli.specs.SolveCommand.{IsSolveEnding}
 use Rattle.nfold_cli.specs.TrialCommand.{trial_caps, tried_ending, IsTrialEnding, IsTrueTrial}
 use Rattle.nfold_cli.specs.CheckCommand.{checked_status, parsed_ending, certificate_ending}
 use Rattle.nfold_cli.specs.Answers.{IsStoredAs, IsAnswer}

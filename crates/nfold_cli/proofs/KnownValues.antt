@@ -5,8 +5,8 @@ use Rattle.fold_theory.specs.declared.Broken.TheVariants.{Below, Above, BrickRow
 use Rattle.mat_files.specs.declared.fault.MatFault.TheVariants as mat
 use Rattle.convex_costs.specs.declared.fault.CostFault.TheVariants as cost
 use Rattle.nfold_cli.specs.Words.{Word, PointForm, GraverForm, SolveForm, CheckForm, TrialForm, form_of}
-use Rattle.nfold_cli.specs.Texts.{point_text, at_byte, at_column, mat_fault_text}
-use Rattle.nfold_cli.specs.Texts.{cost_fault_text, input_text, read_text}
+use Rattle.nfold_cli.specs.Texts.{point_text, at_byte, at_column, mat_fault_text, cost_fault_text, input_text}
+use Rattle.nfold_cli.specs.Texts.{read_text}
 
 -- ---- words
 

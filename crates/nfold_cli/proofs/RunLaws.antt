@@ -1,16 +1,16 @@
 -- What a run that made an answer and gave it has to say.
 use Rattle.std.proofs.Common.{◌≡◌, ◌≢◌, ℕ, ◌⊎◌, List, Option, Some, None, refl, ap, sym, subst, ◌∙◌, inl, inr}
-use Rattle.fold_shelf.specs.Outside.{File, file_named, without, ReadFailed}
-use Rattle.fold_shelf.specs.Outside.{WriteFailed, SinkFailed, ForTold, IsTold, ForBoth, Took, TookPart}
+use Rattle.fold_shelf.specs.Outside.{File, file_named, without, ReadFailed, WriteFailed, SinkFailed, ForTold, IsTold}
+use Rattle.fold_shelf.specs.Outside.{ForBoth, Took, TookPart}
 use Rattle.fold_files.proofs.ToldLaws.{ForTold-all, ForTold-weaker}
 use Rattle.nfold_cli.specs.declared.status.Status.{Status}
 use Rattle.nfold_cli.specs.declared.status.Status.TheVariants as status
 use Rattle.nfold_cli.specs.Words.{Word, FormValue, form_of}
 use Rattle.nfold_cli.specs.Endings.{Ending, IsWritten, IsRefusal, read_ending}
 use Rattle.nfold_cli.specs.Forms.{IsFormEnding, IsTrueEnd, stored_by}
-use Rattle.nfold_cli.specs.Running.{SomeEnding, EndsWith, AnswersForm, FailsReading, FailsWriting, Stores}
-use Rattle.nfold_cli.specs.Running.{StoresPart, ChangesOnly, GivesWhole, GivesPart, Leaves, GivesTruth}
-use Rattle.nfold_cli.specs.Running.{IsMessage, Said, StopsReading, SaysOf}
+use Rattle.nfold_cli.specs.Running.{SomeEnding, EndsWith, AnswersForm, FailsReading, FailsWriting, Stores, StoresPart}
+use Rattle.nfold_cli.specs.Running.{ChangesOnly, GivesWhole, GivesPart, Leaves, GivesTruth, IsMessage, Said}
+use Rattle.nfold_cli.specs.Running.{StopsReading, SaysOf}
 use Rattle.nfold_cli.specs.Answers.{IsToldAnswer, IsOfCommand, IsOfForm, IsStoredAs, IsAnswer, Scene, IsUntouched}
 use Rattle.nfold_cli.specs.Answers.{IsPart, IsLineOf, Runs}
 use Rattle.nfold_cli.proofs.GiveLaws.{both_weaker}

@@ -1,6 +1,6 @@
 -- Every step of an outcome has a length of at most 2 ^ 63, since no bounds are further apart.
-use Rattle.std.proofs.Common.{◌≡◌, ℕ, ◌^◌, ◌<◌, ◌≤◌, List, [], ◌∷◌, All, Option, Some}
-use Rattle.std.proofs.Common.{None, arith, sym, subst, inl, inr}
+use Rattle.std.proofs.Common.{◌≡◌, ℕ, ◌^◌, ◌<◌, ◌≤◌, List, [], ◌∷◌, All, Option, Some, None, arith, sym, subst, inl}
+use Rattle.std.proofs.Common.{inr}
 use Rattle.std.proofs.lemmas.Bool.{cases_lt}
 use Rattle.std.proofs.lemmas.Nat.{pow_below}
 use Rattle.std.proofs.lemmas.List.Elements.{All-nil, All-cons, All-push}
@@ -14,8 +14,8 @@ use Rattle.fold_theory.specs.Programs.{Program, Brick, Bricks, IsLength, widest}
 use Rattle.run_theory.specs.Links.{Bases}
 use Rattle.run_theory.specs.Steps.{Move, moved, IsRun}
 use Rattle.run_theory.specs.BrickRuns.{BrickMove, stepped, IsBrickRunFrom, nearest_point}
-use Rattle.run_theory.specs.Outcomes.{Outcome, Step, RunRecord, IsRecorded, steps_from, step_at, AllSettle}
-use Rattle.run_theory.specs.Outcomes.{FirstStuck, CountedPart, ClosedPart, IsOutcome}
+use Rattle.run_theory.specs.Outcomes.{Outcome, Step, RunRecord, IsRecorded, steps_from, step_at, AllSettle, FirstStuck}
+use Rattle.run_theory.specs.Outcomes.{CountedPart, ClosedPart, IsOutcome}
 use Rattle.nfold_cli.specs.SolvedTexts.{AreShort, AreShortSteps, IsShortRun}
 
 module _ (p : Program) (close : widest p ≤ 2 ^ 63) where

@@ -1,6 +1,6 @@
 -- What was solved is the outcome of the program, with its certificate; and what is made of it is an ending of `solve`.
-use Rattle.std.proofs.Common.{◌≡◌, ◌≢◌, ◌^◌, ◌≤◌, List, Option, All, Result, Ok, Err}
-use Rattle.std.proofs.Common.{IfOk, refl, ap, sym, subst, ◌∙◌, inl, inr}
+use Rattle.std.proofs.Common.{◌≡◌, ◌≢◌, ◌^◌, ◌≤◌, List, Option, All, Result, Ok, Err, IfOk, refl, ap, sym, subst, ◌∙◌}
+use Rattle.std.proofs.Common.{inl, inr}
 use Rattle.fold_theory.specs.declared.Verdict.{Verdict}
 use Rattle.fold_theory.specs.Programs.{Program, IsProgram, Bricks, widest}
 use Rattle.run_theory.specs.declared.SolveFault.{SolveFault}
@@ -15,8 +15,8 @@ use Rattle.nfold_cli.specs.declared.words.SolveOptions.{SolveOptions}
 use Rattle.nfold_cli.specs.Words.{Word}
 use Rattle.nfold_cli.specs.Endings.{Ending}
 use Rattle.nfold_cli.specs.SolvedTexts.{AreShort, IsShortRun, HasShortSteps, solved_outcome}
-use Rattle.nfold_cli.specs.SolveCommand.{caps_of, limit_ending, solved_ending, IsEndingWithin}
-use Rattle.nfold_cli.specs.SolveCommand.{IsSolveEnding, IsTrueEnding, IsTrueSolve}
+use Rattle.nfold_cli.specs.SolveCommand.{caps_of, limit_ending, solved_ending, IsEndingWithin, IsSolveEnding}
+use Rattle.nfold_cli.specs.SolveCommand.{IsTrueEnding, IsTrueSolve}
 use Rattle.nfold_cli.proofs.ShortLaws.{outcome_short}
 use Rattle.nfold_cli.proofs.StepCountLaws.{outcome_told}
 

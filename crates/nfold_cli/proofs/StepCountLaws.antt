@@ -1,6 +1,6 @@
 -- The trace of an outcome tells how many steps each phase makes, and they are few.
-use Rattle.std.proofs.Common.{◌≡◌, ℕ, suc, unsigned_abs, List, [], ◌∷◌, ◌++◌, length}
-use Rattle.std.proofs.Common.{flat_map, Option, Some, None, IfSome, refl, ap, sym, ◌∙◌, subst}
+use Rattle.std.proofs.Common.{◌≡◌, ℕ, suc, unsigned_abs, List, [], ◌∷◌, ◌++◌, length, flat_map, Option, Some, None}
+use Rattle.std.proofs.Common.{IfSome, refl, ap, sym, ◌∙◌, subst}
 use Rattle.lattice_theory.specs.SignedSums.{Sum, vectors}
 use Rattle.fold_theory.specs.declared.Phase.{Phase}
 use Rattle.fold_theory.specs.declared.Phase.TheVariants.{Closed, Counted}
@@ -11,8 +11,8 @@ use Rattle.run_theory.specs.Links.{Bases, AreBases}
 use Rattle.run_theory.specs.BrickSums.{AreBrickSums}
 use Rattle.run_theory.specs.Steps.{Move, moved}
 use Rattle.run_theory.specs.Starts.{IsStart}
-use Rattle.run_theory.specs.Outcomes.{Outcome, Step, RunRecord, IsRecorded, steps_from}
-use Rattle.run_theory.specs.Outcomes.{CountedPart, ClosedPart, IsOutcome}
+use Rattle.run_theory.specs.Outcomes.{Outcome, Step, RunRecord, IsRecorded, steps_from, CountedPart, ClosedPart}
+use Rattle.run_theory.specs.Outcomes.{IsOutcome}
 use Rattle.run_laws.proofs.PhaseRuns.{run_best}
 use Rattle.run_laws.proofs.TrueOutcomes.{settled_start}
 use Rattle.count_laws.proofs.FewSteps.{few_steps}

@@ -1,11 +1,10 @@
 -- The words of a line, one after the other.
-use Rattle.std.proofs.Common.{◌≡◌, ◌-◌, ◌<◌, ◌≤◌, Bool, true, false, ◌&&◌, not, cond, List}
-use Rattle.std.proofs.Common.{[], ◌∷◌, length, take, drop, map, get_or, Option, Some, None, refl, ap}
-use Rattle.std.proofs.Common.{subst, ◌∙◌, ℕ, arith, length-drop, codes}
+use Rattle.std.proofs.Common.{◌≡◌, ◌-◌, ◌<◌, ◌≤◌, Bool, true, false, ◌&&◌, not, cond, List, [], ◌∷◌, length, take, drop}
+use Rattle.std.proofs.Common.{map, get_or, Option, Some, None, refl, ap, subst, ◌∙◌, ℕ, arith, length-drop, codes}
 use Rattle.std.proofs.lemmas.List.{take_all}
 use Rattle.nfold_cli.specs.declared.words.Options.{Options}
-use Rattle.nfold_cli.specs.Words.{Word, FormValue, is_word, is_prefix, with_flag, with_number}
-use Rattle.nfold_cli.specs.Words.{options_in, no_options, command_form, form_of}
+use Rattle.nfold_cli.specs.Words.{Word, FormValue, is_word, is_prefix, with_flag, with_number, options_in, no_options}
+use Rattle.nfold_cli.specs.Words.{command_form, form_of}
 
 -- a test on an option that is there already fails
 pub not_again : (test there : Bool) → there ≡ true → (test && not there) ≡ false
@@ -14,9 +13,6 @@ not_again false there is = refl
 
 pub not_this : (test other : Bool) → test ≡ false → (test && other) ≡ false
 not_this test other is = rw is refl
-
-pub both_hold : (test other : Bool) → test ≡ true → other ≡ true → (test && other) ≡ true
-both_hold test other is holds = rw (is, holds) refl
 
 pub not_there : (test there : Bool) → test ≡ true → there ≡ false → (test && not there) ≡ true
 not_there test there is absent = rw (is, absent) refl

@@ -1,7 +1,7 @@
 -- The steps below the top call: the answer that is made of the words and files, and how it is given.
 use Rattle.std.specs.Prelude.{◌≡◌, ◌≢◌, ℕ, ◌⊎◌, List, Option, Some, None}
-use Rattle.fold_shelf.specs.Outside.{File, Folder, Stream, ReadFailed, WriteFailed, SinkFailed, Lacks}
-use Rattle.fold_shelf.specs.Outside.{without, ForTold, ForBoth, IsTold, Took, TookPart}
+use Rattle.fold_shelf.specs.Outside.{File, Folder, Stream, ReadFailed, WriteFailed, SinkFailed, Lacks, without, ForTold}
+use Rattle.fold_shelf.specs.Outside.{ForBoth, IsTold, Took, TookPart}
 use Rattle.fold_shelf.specs.declared.SinkFault.{SinkFault}
 use Rattle.fold_shelf.specs.declared.SinkFault.TheVariants as sink
 use Rattle.fold_files.specs.declared.ReadFault.{ReadFault}

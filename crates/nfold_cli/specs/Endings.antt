@@ -10,8 +10,8 @@ use Rattle.fold_files.specs.declared.ReadFault.{ReadFault}
 use Rattle.fold_files.specs.declared.ReadFault.TheVariants as read
 use Rattle.nfold_cli.specs.declared.status.Status.{Status}
 use Rattle.nfold_cli.specs.declared.status.Status.TheVariants as status
-use Rattle.nfold_cli.specs.Texts.{at_byte, at_column, mat_fault_text, cost_fault_text}
-use Rattle.nfold_cli.specs.Texts.{input_text, read_text, memory_text}
+use Rattle.nfold_cli.specs.Texts.{at_byte, at_column, mat_fault_text, cost_fault_text, input_text, read_text}
+use Rattle.nfold_cli.specs.Texts.{memory_text}
 
 -- the status that a run answers, the text that it writes, and the file that it stores before its text
 pub record Ending : Type 0 where

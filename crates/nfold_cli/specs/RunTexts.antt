@@ -1,6 +1,6 @@
 -- The texts of `solve` and `trial`: the trace of the steps, the outcome, the line of a trial, and the limits.
-use Rattle.std.specs.Prelude.{ℕ, suc, ◌^◌, List, [], ◌∷◌, ◌++◌, length, flat_map, take}
-use Rattle.std.specs.Prelude.{drop, cond, Bool, Option, Some, None, codes}
+use Rattle.std.specs.Prelude.{ℕ, suc, ◌^◌, List, [], ◌∷◌, ◌++◌, length, flat_map, take, drop, cond, Bool, Option, Some}
+use Rattle.std.specs.Prelude.{None, codes}
 use Rattle.std.specs.Fmt.{decimal, signed_decimal}
 use Rattle.lattice_theory.specs.Vectors.{Vector}
 use Rattle.fold_theory.specs.declared.Phase.{Phase}

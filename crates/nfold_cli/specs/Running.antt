@@ -1,7 +1,7 @@
 -- What the top call answers, what it stores and writes, and what it says.
 use Rattle.std.specs.Prelude.{◌≡◌, ◌≢◌, ℕ, ◌⊎◌, List, Option, Some, None}
-use Rattle.fold_shelf.specs.Outside.{File, Stream, SinkFailed, file_named, FileHolds, StoredPart}
-use Rattle.fold_shelf.specs.Outside.{ForBoth, IsTold, Took, TookPart, Lacks, without}
+use Rattle.fold_shelf.specs.Outside.{File, Stream, SinkFailed, file_named, FileHolds, StoredPart, ForBoth, IsTold, Took}
+use Rattle.fold_shelf.specs.Outside.{TookPart, Lacks, without}
 use Rattle.nfold_cli.specs.declared.status.Status.{Status}
 use Rattle.nfold_cli.specs.declared.status.Status.TheVariants as status
 use Rattle.nfold_cli.specs.Texts.{write_text, memory_text}

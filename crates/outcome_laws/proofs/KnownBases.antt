@@ -15,6 +15,7 @@ use Rattle.lattice_theory.proofs.KnownValues.{minus, two, three}
 use Rattle.lattice_laws.proofs.Tests.{and_true, not_both}
 use Rattle.lattice_laws.proofs.Elements.{element-lifted}
 use Rattle.lattice_laws.proofs.UnitVectors.{without_rows, first_units, units_elements}
+use Rattle.lattice_laws.proofs.Signs.{zero_or_one, below_zero}
 
 head_same : (u v : ℤ) → u ∷ [] ≡ v ∷ [] → u ≡ v
 head_same u v e = ap (λ w. get_or w 0 (pos 0)) e
@@ -46,31 +47,20 @@ units_are =
       element-lifted (without_rows 2) (row ∷ []) (two (pos 0) (pos 1)) bare.1.0,
     )
 
-upto_one : (a : ℤ) → is_between a (pos 1) ≡ true → (a ≡ pos 0) ⊎ (a ≡ pos 1)
-upto_one (pos zero) h = inl refl
-upto_one (pos (suc zero)) h = inr refl
-upto_one (pos (suc (suc n))) h = absurd (grind (arith, nat_tests))
-upto_one (negsuc n) h = absurd (grind (arith, nat_tests, ints))
-
 from_minus_one : (b : ℤ) → is_between b (minus 1) ≡ true → (b ≡ pos 0) ⊎ (b ≡ minus 1)
 from_minus_one (pos zero) h = inl refl
 from_minus_one (pos (suc n)) h = absurd (grind (arith, nat_tests, ints))
 from_minus_one (negsuc zero) h = inr refl
 from_minus_one (negsuc (suc n)) h = absurd (grind (arith, nat_tests))
 
-only_zero : (c : ℤ) → is_between c (pos 0) ≡ true → c ≡ pos 0
-only_zero (pos zero) h = refl
-only_zero (pos (suc n)) h = absurd (grind (arith, nat_tests))
-only_zero (negsuc n) h = absurd (grind (arith, nat_tests))
-
 -- what is conformally below (1, -1, 0), is not 0 and has the form (a, b, a + b) is that vector itself
 below_difference : (a b c : ℤ) → is_between a (pos 1) ≡ true → is_between b (minus 1) ≡ true →
     is_between c (pos 0) ≡ true → c ≡ pos 1 *ℤ a +ℤ (pos 1 *ℤ b +ℤ pos 0) → is_zero (three a b c) ≡ false →
     three a b c ≡ three (pos 1) (minus 1) (pos 0)
-below_difference a b c ha hb hc image nonzero = by (upto_one a ha) (from_minus_one b hb)
+below_difference a b c ha hb hc image nonzero = by (zero_or_one a ha) (from_minus_one b hb)
   where
     none : c ≡ pos 0
-    none = only_zero c hc
+    none = below_zero c hc
 
     by : (a ≡ pos 0) ⊎ (a ≡ pos 1) → (b ≡ pos 0) ⊎ (b ≡ minus 1) → three a b c ≡ three (pos 1) (minus 1) (pos 0)
     by (inl e) (inl f) = absurd (not_both (is_zero (three a b c)) (λ i. is_zero (three (e i) (f i) (none i))) nonzero)

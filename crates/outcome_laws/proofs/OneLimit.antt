@@ -4,7 +4,7 @@ use Rattle.std.proofs.Common.{ap, arith, sym, ◌∙◌, subst, ◌⊎◌, inl, 
 use Rattle.std.proofs.lemmas.Bool.{cases_order}
 use Rattle.std.proofs.lemmas.List.{length-map}
 use Rattle.std.proofs.lemmas.List.Elements.{All-contains}
-use Rattle.std.proofs.lemmas.Option.{slice_get_within, get_or_from_slice_get}
+use Rattle.std.proofs.lemmas.Option.{same_Some}
 use Rattle.fold_theory.specs.declared.Phase.{Phase}
 use Rattle.fold_theory.specs.declared.Phase.TheVariants.{Closed, Counted}
 use Rattle.fold_theory.specs.declared.Verdict.{Verdict}
@@ -18,6 +18,7 @@ use Rattle.lattice_theory.specs.BasisLimits.{IsNarrow, ExceedsBasis}
 use Rattle.lattice_theory.specs.SignedSums.{Sum, IsSignedSum, vectors}
 use Rattle.lattice_laws.proofs.Rising.{rising_length}
 use Rattle.lattice_laws.proofs.SlackBases.{slack_basis_unique, within_or_exceeds}
+use Rattle.lattice_laws.proofs.Places.{slice_get-All}
 use Rattle.fold_theory.specs.Programs.{Program, Bricks, link_rests, link_miss}
 use Rattle.run_theory.specs.Links.{Bases, AreBases, generators, links_of, fold_complexity}
 use Rattle.run_theory.specs.BrickSums.{ExceedsSums}
@@ -31,17 +32,13 @@ use Rattle.outcome_laws.proofs.OneOutcome.{stuck_or_settled}
 
 -- ---- the first wide entry
 
--- what holds of each element holds of the one at a place
-at_place : {A : Type 0} → (P : A → Type 0) (xs : List A) (i : ℕ) (x : A) → All P xs → slice_get xs i ≡ Some x → P x
-at_place P xs i x all there = subst P (get_or_from_slice_get xs i x x there) (all i x (slice_get_within xs i x there))
-
 module _ (m : Matrix) where
   -- a row before that of a wide entry is narrow
   no_wide_before : (row col other place : ℕ) (first : IsFirstWide m row col) (second : IsFirstWide m other place) →
       first.i < second.i → ⊥
   no_wide_before row col other place first second before =
       let narrow = second.above first.i first.entries before first.there.0 in
-      let here = at_place (λ a. unsigned_abs a < 2 ^ 31) first.entries first.j first.entry narrow first.there.1 in
+      let here = slice_get-All (λ a. unsigned_abs a < 2 ^ 31) first.entries first.j first.entry first.there.1 narrow in
       omega (arith, first.wide, here)
 
   -- and so is what stands before it in its row
@@ -50,12 +47,9 @@ module _ (m : Matrix) where
   no_wide_left row col other place first second same before =
       let rows : Some first.entries ≡ Some second.entries =
       sym first.there.0 ∙ ap (slice_get m.rows) same ∙ second.there.0 in
-      let entries : first.entries ≡ second.entries = by_row first.entries second.entries rows in
+      let entries : first.entries ≡ second.entries = same_Some first.entries second.entries rows in
       let there = subst (λ v. slice_get v first.j ≡ Some first.entry) entries first.there.1 in
       omega (arith, first.wide, second.before first.j first.entry before there)
-    where
-      by_row : (u v : Vector) → Some u ≡ Some v → u ≡ v
-      by_row u v e = cc
 
   first_wide_unique : (row col other place : ℕ) → IsFirstWide m row col → IsFirstWide m other place →
       (row ≡ other) × (col ≡ place)
@@ -76,8 +70,9 @@ module _ (m : Matrix) where
   -- a matrix with narrow rows has none
   pub no_wide_in_narrow : (row col : ℕ) → All IsNarrow m.rows → IsFirstWide m row col → ⊥
   no_wide_in_narrow row col narrow first =
-      let row_narrow = at_place IsNarrow m.rows first.i first.entries narrow first.there.0 in
-      let here = at_place (λ a. unsigned_abs a < 2 ^ 31) first.entries first.j first.entry row_narrow first.there.1 in
+      let row_narrow = slice_get-All IsNarrow m.rows first.i first.entries first.there.0 narrow in
+      let here = slice_get-All (λ a. unsigned_abs a < 2 ^ 31) first.entries first.j first.entry first.there.1
+      row_narrow in
       omega (arith, first.wide, here)
 
 module _ (p : Program) (c : Caps) where

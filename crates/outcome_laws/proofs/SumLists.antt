@@ -1,19 +1,11 @@
 -- The list of the sums of signed generators, with their levels, is one list.
-use Rattle.std.proofs.Common.{◌≡◌, ℕ, ◌≤◌, List, [], ◌∷◌, refl, arith, sym, Contains, inl, inr, subst}
+use Rattle.std.proofs.Common.{◌≡◌, ℕ, ◌≤◌, List, [], ◌∷◌, refl, arith, sym, Contains, subst}
 use Rattle.std.specs.List.{AllByRecursion}
 use Rattle.std.proofs.lemmas.List.Elements.{All-contains, recursion_from_All}
 use Rattle.lattice_theory.specs.Vectors.{Vector}
 use Rattle.lattice_theory.specs.SignedSums.{Sum, IsSignedSum, HasLevel, AreSums, vectors}
-use Rattle.lattice_laws.proofs.Members.{contains_cases, contains_head, contains_tail}
 use Rattle.lattice_laws.proofs.Rising.{rising_unique}
-
--- a listed vector is that of a listed sum
-listed_in : (sums : List Sum) (w : Vector) → Contains (vectors sums) w → (s : Sum) × Contains sums s × (s.vector ≡ w)
-listed_in [] w (k, low, e) = absurd (omega arith)
-listed_in (s ∷ sums) w c = elim (contains_cases s.vector (vectors sums) w c) [
-  | inl e ↦ (s, contains_head s sums, e)
-  | inr d ↦ let r = listed_in sums w d in (r.0, contains_tail s sums r.0 r.1, r.2)
-]
+use Rattle.lattice_laws.proofs.VectorLists.{vectors-sum}
 
 module _ (t : ℕ) (gens : List Vector) where
   -- a vector has one level
@@ -47,7 +39,7 @@ module _ (t : ℕ) (gens : List Vector) where
     other_has : (ss rs : List Sum) → AreSums t gens g ss → AreSums t gens g rs → (w : Vector) →
         Contains (vectors ss) w → Contains (vectors rs) w
     other_has ss rs first second w c =
-        let r = listed_in ss w c in
+        let r = vectors-sum ss w c in
         let at = All-contains IsLevelled ss r.0 first.sound r.1 in
         second.complete r.0.level w at.0 (subst (IsSignedSum t gens r.0.level) r.2 at.1.reached)
 

@@ -1,36 +1,24 @@
 -- Laws of the runs of the first bricks, one after the other.
-use Rattle.std.proofs.Common.{◌≡◌, ℕ, zero, suc, ◌+◌, ◌-◌, ◌*◌, ◌<◌, ◌≤◌, ◌≤ℤ◌, List, [], ◌∷◌, ◌++◌, length, take}
-use Rattle.std.proofs.Common.{drop, refl, ap, arith, sym, ◌∙◌, subst, Some, slice_get, length-append, Vec, Global}
+use Rattle.std.proofs.Common.{◌≡◌, ℕ, suc, ◌+◌, ◌-◌, ◌*◌, ◌<◌, ◌≤◌, ◌≤ℤ◌, List, [], ◌∷◌, ◌++◌, length, take, refl, ap}
+use Rattle.std.proofs.Common.{arith, ◌∙◌, subst, Some, slice_get, length-append, Vec, Global}
 use Rattle.std.specs.List.{AllZip, AllByRecursion}
-use Rattle.std.proofs.lemmas.List.{take_more, take_all, map-append, take-append-le, drop-append-le, length-drop}
+use Rattle.std.proofs.lemmas.List.{take_more, take_all, map-append}
 use Rattle.std.proofs.lemmas.List.Elements.{length_all_zip, recursion_from_All}
 use Rattle.std.proofs.lemmas.Option.{slice_get_within, get_or_from_slice_get}
-use Rattle.lattice_theory.specs.Vectors.{Vector, sub}
+use Rattle.lattice_theory.specs.Vectors.{Vector}
 use Rattle.lattice_theory.specs.Matrices.{product, rows_of}
-use Rattle.lattice_laws.proofs.Conformal.{norm_none}
-use Rattle.lattice_laws.proofs.Products.{length-rows}
 use Rattle.fold_theory.specs.declared.Phase.TheVariants.{Counted}
 use Rattle.fold_theory.specs.Programs.{Program, Brick, Bricks, IsBrick, IsProgram, IsWithin, AreWithin, brick_residual}
-use Rattle.lattice_laws.proofs.Sums.{same_vector}
+use Rattle.lattice_laws.proofs.VectorLists.{rows_of-push}
 use Rattle.run_theory.specs.BrickRuns.{BrickMove, IsBrickRun}
 use Rattle.run_theory.specs.Outcomes.{AllSettle, FirstStuck}
 use Rattle.run_theory.specs.Starts.{IsStart}
+use Rattle.fold_laws.proofs.Rests.{met}
 use Rattle.brick_phase.specs.Settled.{IsBrickEnd}
 use Rattle.fold_program.specs.Places.{OfBrick}
 use Rattle.phase_one.specs.Started.{lists}
 
 -- ---- one list more
-
-rows_of-append : (k t : ℕ) (entries v : Vector) → length entries ≡ k * t → length v ≡ t →
-    rows_of (suc k) t (entries ++ v) ≡ rows_of k t entries ++ v ∷ []
-rows_of-append zero t [] v size width =
-    ap (λ w. w ∷ []) (ap (λ n. take n v) (sym width) ∙ take_all (length v) v (omega arith))
-rows_of-append zero t (a ∷ entries) v size width = absurd (omega arith)
-rows_of-append (suc k) t entries v size width =
-    let fits : t ≤ length entries = omega arith in
-    let left : length (drop t entries) ≡ k * t = simp length-drop (omega arith) in
-    rw (take-append-le t entries v fits, drop-append-le t entries v fits)
-    (ap (λ rest. take t entries ∷ rest) (rows_of-append k t (drop t entries) v left width))
 
 lists-push : (traces : List (Vec BrickMove Global)) (trace : Vec BrickMove Global) →
     lists (traces ++ trace ∷ []) ≡ lists traces ++ trace.items ∷ []
@@ -90,7 +78,7 @@ module _ (p : Program) (basis : List Vector) where
       omega (arith, (brick_of k b program here).lower_size, length_all_zip ◌≤ℤ◌ b.lower v within.0) in
       let next : k + 1 ≡ suc k = omega arith in
       let rows : rows_of (k + 1) p.link.cols (entries ++ v) ≡ rows_of k p.link.cols entries ++ v ∷ [] =
-      ap (λ n. rows_of n p.link.cols (entries ++ v)) next ∙ rows_of-append k p.link.cols entries v so_far.size width in
+      ap (λ n. rows_of n p.link.cols (entries ++ v)) next ∙ rows_of-push k p.link.cols entries v so_far.size width in
       record {
         few = omega arith;
         size = simp length-append (omega (arith, so_far.size, width));
@@ -128,12 +116,6 @@ module _ (p : Program) (basis : List Vector) where
 
   -- ---- all bricks
 
-  met : (b : Brick) (v : Vector) → length b.right ≡ length p.brick.rows → brick_residual p b v ≡ 0 →
-      product p.brick v ≡ b.right
-  met b v right none =
-      same_vector (product p.brick v) b.right (length-rows p.brick.rows v ∙ sym right)
-      (norm_none (sub b.right (product p.brick v)) none)
-
   all_met : (bs : List Brick) (traces : List (List BrickMove)) (x : Bricks) →
       AllByRecursion (IsBrick p.link.cols (length p.brick.rows)) bs →
       AllSettle p basis bs traces x → AllZip (λ b v. product p.brick v ≡ b.right) bs x
@@ -143,7 +125,7 @@ module _ (p : Program) (basis : List Vector) where
   all_met (b ∷ bs) [] x sizes all = absurd all
   all_met (b ∷ bs) (ms ∷ traces) [] sizes all = absurd all
   all_met (b ∷ bs) (ms ∷ traces) (v ∷ x) sizes all =
-      (met b v sizes.0.right_size all.1, all_met bs traces x sizes.1 all.2)
+      (met p b v sizes.0.right_size all.1, all_met bs traces x sizes.1 all.2)
 
   -- where all have settled, the entries are those of a start of phase Counted
   pub record AreStart (traces : List (Vec BrickMove Global)) (entries : Vector) : Type 0 where

@@ -1,23 +1,16 @@
 -- The greatest absolute entry, one after the other.
-use Rattle.std.proofs.Common.{◌≡◌, ℕ, zero, suc, ◌+◌, ◌^◌, ◌≤◌, max, ℤ, pos, unsigned_abs, List, [], ◌∷◌, ◌++◌, length}
-use Rattle.std.proofs.Common.{map, drop, get_or, refl, ap, arith, ◌∙◌, Some, slice_get, All, subst}
-use Rattle.std.proofs.lemmas.Option.{slice_get_within, get_or_from_slice_get}
+use Rattle.std.proofs.Common.{◌≡◌, ℕ, ◌+◌, ◌^◌, ◌≤◌, max, ℤ, pos, unsigned_abs, List, [], ◌∷◌, ◌++◌, length, map, drop}
+use Rattle.std.proofs.Common.{refl, ap, arith, ◌∙◌, Some, slice_get, option_map}
+use Rattle.std.proofs.lemmas.Option.{slice_get_within, get_or_from_slice_get, slice_get-map}
 use Rattle.std.proofs.lemmas.List.{drop_all, length-map}
-use Rattle.std.proofs.Math.Seq.{drop-cons}
 use Rattle.lattice_theory.specs.Lists.{greatest}
 use Rattle.lattice_theory.specs.Vectors.{Vector, dot}
 use Rattle.lattice_theory.specs.Matrices.{product}
 use Rattle.fold_theory.specs.Programs.{Program}
 use Rattle.run_theory.specs.Folds.{IsSmallImage}
+use Rattle.lattice_laws.proofs.Places.{drop-at}
 
 module _ {A : Type 0} (f : A → ℕ) where
-  drop_here : (xs : List A) (k : ℕ) (x : A) → slice_get xs k ≡ Some x → drop k xs ≡ x ∷ drop (k + 1) xs
-  drop_here xs k x e =
-      let low = slice_get_within xs k x e in
-      let next : suc k ≡ k + 1 = omega arith in
-      drop-cons xs k x low ∙ ap (λ n. get_or xs k x ∷ drop n xs) next
-      ∙ ap (λ y. y ∷ drop (k + 1) xs) (get_or_from_slice_get xs k x x e)
-
   -- the greatest so far, and that of the numbers that are left, are those of all
   abbrev pub GreatestUpTo : List A → ℕ → ℕ → Type 0
   GreatestUpTo xs i most = max most (greatest (map f (drop i xs))) ≡ greatest (map f xs)
@@ -29,7 +22,7 @@ module _ {A : Type 0} (f : A → ℕ) where
       GreatestUpTo xs i most → GreatestUpTo xs (i + 1) next
   greatest_more xs i most next x there is so_far =
       let split : greatest (map f (drop i xs)) ≡ max (f x) (greatest (map f (drop (i + 1) xs))) =
-      ap (λ ys. greatest (map f ys)) (drop_here xs i x there) in
+      ap (λ ys. greatest (map f ys)) (drop-at xs i x there) in
       omega (arith, split, is, so_far)
 
   pub greatest_all : (xs : List A) (i most : ℕ) → length xs ≤ i → GreatestUpTo xs i most → most ≡ greatest (map f xs)
@@ -43,7 +36,7 @@ module _ {A : Type 0} (f : A → ℕ) where
       max most (greatest (map f (drop i xs))) ≡ whole → max next (greatest (map f (drop (i + 1) xs))) ≡ whole
   greatest_rest xs i most next x whole there is so_far =
       let split : greatest (map f (drop i xs)) ≡ max (f x) (greatest (map f (drop (i + 1) xs))) =
-      ap (λ ys. greatest (map f ys)) (drop_here xs i x there) in
+      ap (λ ys. greatest (map f ys)) (drop-at xs i x there) in
       omega (arith, split, is, so_far)
 
   pub greatest_last : (xs : List A) (i most whole : ℕ) → length xs ≤ i →
@@ -64,13 +57,7 @@ greatest_both (a ∷ u) v most next is both =
 -- what the sum changes a linking row by is small
 pub image_there : (p : Program) (w row : Vector) (i : ℕ) → slice_get p.link.rows i ≡ Some row →
     slice_get (product p.link w) i ≡ Some (dot row w)
-image_there p w row i there = by p.link.rows i there
-  where
-    by : (rows : List Vector) (i : ℕ) → slice_get rows i ≡ Some row →
-        slice_get (map (λ r. dot r w) rows) i ≡ Some (dot row w)
-    by [] i there = absurd (cc)
-    by (r ∷ rows) zero there = let same : r ≡ row = cc in ap (λ v. Some (dot v w)) same
-    by (r ∷ rows) (suc i) there = by rows i there
+image_there p w row i there = slice_get-map (λ r. dot r w) p.link.rows i ∙ ap (option_map (λ r. dot r w)) there
 
 pub image_small : (p : Program) (w : Vector) (i : ℕ) (a : ℤ) → IsSmallImage p w →
     slice_get (product p.link w) i ≡ Some a → unsigned_abs a ≤ 2 ^ 50
@@ -81,6 +68,3 @@ image_small p w i a small there =
 
 pub length-product : (p : Program) (w : Vector) → length (product p.link w) ≡ length p.link.rows
 length-product p w = length-map p.link.rows (λ r. dot r w)
-
-pub all_there : {A : Type 0} (P : A → Type 0) (xs : List A) (i : ℕ) (x : A) → All P xs → slice_get xs i ≡ Some x → P x
-all_there P xs i x all there = subst P (get_or_from_slice_get xs i x x there) (all i x (slice_get_within xs i x there))

@@ -1,38 +1,25 @@
 -- The point after a step, brick by brick: what was recorded of the step is read beside the point.
 use Rattle.std.proofs.Common.{◌≡◌, ℕ, zero, suc, ◌+◌, ◌-◌, ◌^◌, ◌<◌, ◌≤◌, pos, Bool, true, false, List, [], ◌∷◌, ◌++◌}
-use Rattle.std.proofs.Common.{length, take, drop, get_or, refl, ap, arith, sym, subst, ◌∙◌}
-use Rattle.std.proofs.Common.{Some, Option, slice_get, All}
+use Rattle.std.proofs.Common.{length, take, drop, get_or, refl, ap, arith, sym, subst, ◌∙◌, Some, slice_get, All}
 use Rattle.std.proofs.Common.{flat_map, append-nil}
 use Rattle.std.proofs.lemmas.List.{take_more, take_all, length-append, length-drop}
-use Rattle.std.proofs.Math.Seq.{drop-cons, take-append_seam, drop-append_seam}
+use Rattle.std.proofs.Math.Seq.{take-append_seam, drop-append_seam}
 use Rattle.std.proofs.lemmas.Grind.{flat_map-append}
-use Rattle.std.proofs.lemmas.Option.{slice_get-get_or, slice_get_within, get_or_from_slice_get}
+use Rattle.std.proofs.lemmas.Option.{slice_get_within, get_or_from_slice_get}
 use Rattle.lattice_theory.specs.Vectors.{Vector, add, scale, zeros, is_zero}
 use Rattle.lattice_laws.proofs.Products.{zeros_is}
 use Rattle.lattice_laws.proofs.Multiples.{scale-zeros}
 use Rattle.lattice_laws.proofs.Sums.{add_zeros}
+use Rattle.lattice_laws.proofs.Places.{drop-at, there_at, same_value}
 use Rattle.lattice_theory.specs.SignedSums.{vectors}
 use Rattle.fold_theory.specs.Programs.{Program, IsProgram, Bricks, AreWithin}
 use Rattle.run_theory.specs.Folds.{FoldValue}
 use Rattle.run_theory.specs.Steps.{Move, IsBest, moved}
 use Rattle.run_theory.specs.Outcomes.{nonzero_from, nonzero_entries}
-use Rattle.phase_run.proofs.PointLaws.{shape_of, step_sizes}
+use Rattle.fold_program.proofs.PointLaws.{shape_of}
+use Rattle.phase_run.proofs.PointLaws.{step_sizes}
 
 -- ---- lists
-
-at_same : {A : Type 0} (o : Option A) (a b : A) → o ≡ Some a → o ≡ Some b → a ≡ b
-at_same o a b p q = cc
-
-there_at : {A : Type 0} (xs : List A) (i : ℕ) → i < length xs → (x : A) × (slice_get xs i ≡ Some x)
-there_at [] i low = absurd (omega arith)
-there_at (x ∷ xs) i low = (get_or (x ∷ xs) i x, slice_get-get_or (x ∷ xs) i x low)
-
-drop_here : {A : Type 0} (xs : List A) (k : ℕ) (x : A) → slice_get xs k ≡ Some x → drop k xs ≡ x ∷ drop (k + 1) xs
-drop_here xs k x e =
-    let low = slice_get_within xs k x e in
-    let next : suc k ≡ k + 1 = omega arith in
-    drop-cons xs k x low ∙ ap (λ n. get_or xs k x ∷ drop n xs) next
-    ∙ ap (λ y. y ∷ drop (k + 1) xs) (get_or_from_slice_get xs k x x e)
 
 -- what a part up to the end of a list is
 pub rest_of : {A : Type 0} (n : ℕ) (xs ys : List A) → ys ≡ take (length xs - n) (drop n xs) → ys ≡ drop n xs
@@ -70,7 +57,7 @@ named_behind i (d ∷ h) j e = by (is_zero d) refl (λ later. named_behind (suc 
         let low = behind (ap (λ ns. slice_get ns 0) (sym (named_zero i d h none).0) ∙ e) in
         omega (arith, low)
     by false some behind =
-        let same : suc i ≡ j = at_same (Some (suc i)) (suc i) j refl
+        let same : suc i ≡ j = same_value (Some (suc i)) (suc i) j refl
         (ap (λ ns. slice_get ns 0) (sym (named_some i d h some).0) ∙ e) in
         omega (arith, same)
 
@@ -102,8 +89,8 @@ module _ (t k : ℕ) (x h : Bricks) where
         by [] h i at move = absurd (cc)
         by (u ∷ x) [] i at move = absurd (cc)
         by (u ∷ x) (e ∷ h) zero at move =
-            let first : u ≡ v = at_same (Some u) u v refl at in
-            let second : e ≡ d = at_same (Some e) e d refl move in
+            let first : u ≡ v = same_value (Some u) u v refl at in
+            let second : e ≡ d = same_value (Some e) e d refl move in
             λ j. Some (add (first j) (scale (pos (2 ^ k)) (second j)))
         by (u ∷ x) (e ∷ h) (suc i) at move = by x h i at move
 
@@ -122,6 +109,25 @@ module _ (t k : ℕ) (x h : Bricks) where
         ∙ ap (λ (u : Vector). flat_map (λ w. w) (take i y ++ u ∷ [])) (sym here)
         ∙ ap (flat_map (λ (u : Vector). u)) (sym (take_more y i [] low))
 
+    -- the part of brick i in the move, with an entry for each column
+    record IsMove (i : ℕ) : Type 0 where
+      part : Vector
+      there : slice_get h i ≡ Some part
+      here : drop i h ≡ part ∷ drop (i + 1) h
+      number : i + 1 ≡ suc i
+      width : length part ≡ t
+
+    move_at : (i : ℕ) → i < length x → IsMove i
+    move_at i low =
+        let found = there_at h i (omega (arith, low, same)) in
+        record {
+          part = found.0;
+          there = found.1;
+          here = drop-at h i found.0 found.1;
+          number = omega arith;
+          width = sized h i found.0 wh found.1;
+        }
+
     -- where brick i is named, the first of the parts that are left are its own
     pub record IsPart (i : ℕ) (names : List ℕ) (parts : Vector) : Type 0 where
       pub part : Vector
@@ -135,45 +141,36 @@ module _ (t k : ℕ) (x h : Bricks) where
         SteppedUpTo i names parts entries → IsPart i names parts
     part_of i names parts entries low named so_far = by (is_zero d) refl
       where
-        move : (d : Vector) × (slice_get h i ≡ Some d)
-        move = there_at h i (omega (arith, low, same))
+        move : IsMove i
+        move = move_at i low
 
         d : Vector
-        d = move.0
+        d = move.part
 
         rest : Bricks
         rest = drop (i + 1) h
 
-        here : drop i h ≡ d ∷ rest
-        here = drop_here h i d move.1
-
-        number : i + 1 ≡ suc i
-        number = omega arith
-
-        width : length d ≡ t
-        width = sized h i d wh move.1
-
         by : (b : Bool) → is_zero d ≡ b → IsPart i names parts
         by true none =
             let names_are : names ≡ nonzero_from (suc (suc i)) rest =
-            so_far.names_left ∙ ap (nonzero_from (suc i)) here ∙ (named_zero i d rest none).0 in
+            so_far.names_left ∙ ap (nonzero_from (suc i)) move.here ∙ (named_zero i d rest none).0 in
             let behind = named_behind (suc i) rest (i + 1) (ap (λ ns. slice_get ns 0) (sym names_are) ∙ named) in
             absurd (omega (arith, behind))
         by false some =
             let names_are : names ≡ suc i ∷ nonzero_from (suc (suc i)) rest =
-            so_far.names_left ∙ ap (nonzero_from (suc i)) here ∙ (named_some i d rest some).0 in
+            so_far.names_left ∙ ap (nonzero_from (suc i)) move.here ∙ (named_some i d rest some).0 in
             let parts_are : parts ≡ d ++ nonzero_entries rest =
-            so_far.parts_left ∙ ap nonzero_entries here ∙ (named_some i d rest some).1 in
+            so_far.parts_left ∙ ap nonzero_entries move.here ∙ (named_some i d rest some).1 in
             let long : length parts ≡ length d + length (nonzero_entries rest) =
             ap length parts_are ∙ length-append d (nonzero_entries rest) in
             record {
               part = d;
-              there = move.1;
-              is = ap (take t) parts_are ∙ ap (λ n. take n (d ++ nonzero_entries rest)) (sym width)
+              there = move.there;
+              is = ap (take t) parts_are ∙ ap (λ n. take n (d ++ nonzero_entries rest)) (sym move.width)
                   ∙ take-append_seam d (nonzero_entries rest);
-              room = omega (arith, long, width);
-              names_after = ap (drop 1) names_are ∙ ap (λ n. nonzero_from (suc n) rest) (sym number);
-              parts_after = ap (drop t) parts_are ∙ ap (λ n. drop n (d ++ nonzero_entries rest)) (sym width)
+              room = omega (arith, long, move.width);
+              names_after = ap (drop 1) names_are ∙ ap (λ n. nonzero_from (suc n) rest) (sym move.number);
+              parts_after = ap (drop t) parts_are ∙ ap (λ n. drop n (d ++ nonzero_entries rest)) (sym move.width)
                   ∙ drop-append_seam d (nonzero_entries rest);
             }
 
@@ -201,40 +198,34 @@ module _ (t k : ℕ) (x h : Bricks) where
     stepped_still i v entries next names next_names parts next_parts at unnamed pushed names_kept parts_kept so_far =
         by (is_zero d) refl
       where
-        move : (d : Vector) × (slice_get h i ≡ Some d)
-        move = there_at h i (omega (arith, slice_get_within x i v at, same))
+        move : IsMove i
+        move = move_at i (slice_get_within x i v at)
 
         d : Vector
-        d = move.0
+        d = move.part
 
         rest : Bricks
         rest = drop (i + 1) h
 
-        here : drop i h ≡ d ∷ rest
-        here = drop_here h i d move.1
-
-        number : i + 1 ≡ suc i
-        number = omega arith
-
         by : (b : Bool) → is_zero d ≡ b → SteppedUpTo (i + 1) next_names next_parts next
         by true none =
             let names_are : names ≡ nonzero_from (suc (suc i)) rest =
-            so_far.names_left ∙ ap (nonzero_from (suc i)) here ∙ (named_zero i d rest none).0 in
+            so_far.names_left ∙ ap (nonzero_from (suc i)) move.here ∙ (named_zero i d rest none).0 in
             let parts_are : parts ≡ nonzero_entries rest =
-            so_far.parts_left ∙ ap nonzero_entries here ∙ (named_zero i d rest none).1 in
-            let width : length v ≡ length d = sized x i v wx at ∙ sym (sized h i d wh move.1) in
+            so_far.parts_left ∙ ap nonzero_entries move.here ∙ (named_zero i d rest none).1 in
+            let width : length v ≡ length d = sized x i v wx at ∙ sym (sized h i d wh move.there) in
             let nothing : scale (pos (2 ^ k)) d ≡ zeros (length d) =
             ap (scale (pos (2 ^ k))) (zeros_is d none) ∙ scale-zeros (pos (2 ^ k)) (length d) in
             let still : v ≡ add v (scale (pos (2 ^ k)) d) = sym (ap (add v) nothing ∙ add_zeros v (length d) width) in
             record {
-              so_far = pushed ∙ written i v d v entries at move.1 still so_far.so_far;
-              names_left = names_kept ∙ names_are ∙ ap (λ n. nonzero_from (suc n) rest) (sym number);
+              so_far = pushed ∙ written i v d v entries at move.there still so_far.so_far;
+              names_left = names_kept ∙ names_are ∙ ap (λ n. nonzero_from (suc n) rest) (sym move.number);
               parts_left = parts_kept ∙ parts_are;
             }
         by false some =
             let names_are : names ≡ suc i ∷ nonzero_from (suc (suc i)) rest =
-            so_far.names_left ∙ ap (nonzero_from (suc i)) here ∙ (named_some i d rest some).0 in
-            absurd (unnamed (ap (λ ns. slice_get ns 0) names_are ∙ ap Some (sym number)))
+            so_far.names_left ∙ ap (nonzero_from (suc i)) move.here ∙ (named_some i d rest some).0 in
+            absurd (unnamed (ap (λ ns. slice_get ns 0) names_are ∙ ap Some (sym move.number)))
 
     -- all bricks
     pub stepped_all : (i : ℕ) (names : List ℕ) (parts entries : Vector) → length x ≤ i →

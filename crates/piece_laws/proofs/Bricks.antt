@@ -9,8 +9,9 @@ use Rattle.lattice_laws.proofs.Sums.{length-sub, sub_swap, same_vector}
 use Rattle.lattice_laws.proofs.SlackBases.{IsSigned}
 use Rattle.cover_laws.proofs.Parts.{Part, part_of_complete}
 use Rattle.fold_theory.specs.Programs.{Program, Brick, IsWithin, brick_residual}
+use Rattle.fold_laws.proofs.Bounds.{length-within}
 use Rattle.piece_laws.proofs.Residuals.{brick_residual_parts}
-use Rattle.piece_laws.proofs.Bounds.{length-within, within_parts}
+use Rattle.piece_laws.proofs.Bounds.{within_parts}
 
 -- where y is within the bounds it misses the rows by no less than x
 abbrev pub IsNoHelp : Program → Brick → Vector → Vector → Type 0

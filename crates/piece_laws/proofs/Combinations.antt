@@ -1,17 +1,20 @@
 -- Sums of multiples of generators, by count vectors: they are linear in the counts, and where the terms agree with each
 -- other, parts of the counts give parts of the sum.
-use Rattle.std.proofs.Common.{◌≡◌, ℕ, zero, suc, ◌<◌, ◌≤◌, ℤ, pos, negsuc, ◌+ℤ◌, unsigned_abs, true, List, [], ◌∷◌, length, map, refl, ap, arith, sym, ◌∙◌, ◌⊎◌, inl, inr, subst}
+use Rattle.std.proofs.Common.{◌≡◌, ℕ, zero, suc, ◌<◌, ◌≤◌, ℤ, pos, negsuc, ◌+ℤ◌, unsigned_abs, true, List, [], ◌∷◌}
+use Rattle.std.proofs.Common.{length, map, refl, ap, arith, sym, ◌∙◌, ◌⊎◌, inl, inr, subst}
 use Rattle.std.proofs.lemmas.Int.{ints}
 use Rattle.std.proofs.Math.IntN.{*ℤ_comm}
 use Rattle.std.specs.List.{AllZip, AllByRecursion}
 use Rattle.lattice_theory.specs.Vectors.{Vector, ◌⊑◌, conforms, is_between, norm1, add, scale, opposite, dot, zeros}
 use Rattle.lattice_laws.proofs.Tests.{and_true}
 use Rattle.lattice_laws.proofs.Members.{contains_cases}
-use Rattle.lattice_laws.proofs.Conformal.{agree, agree_comm, norm1-cons, conforms_refl, conforms_trans, below_sum, add_comm_v, length-add, length_below, opposite-opposite}
+use Rattle.lattice_laws.proofs.Conformal.{agree, agree_comm, norm1-cons, conforms_refl, conforms_trans, below_sum}
+use Rattle.lattice_laws.proofs.Conformal.{add_comm_v, length-add, length_below, opposite-opposite}
 use Rattle.lattice_laws.proofs.Products.{dot-add, dot-zeros, rows-zeros, rows-add, length-zeros}
 use Rattle.lattice_laws.proofs.SlackBases.{IsSigned}
 use Rattle.lattice_laws.proofs.Sums.{add_assoc_v, add_swap, add_zeros, interchange}
-use Rattle.lattice_laws.proofs.Multiples.{scale_zero, length-scale, dot-scale, rows-scale, scale-zeros, scale-below, scale_once, norm-scale-abs, scale-sum, scale_back}
+use Rattle.lattice_laws.proofs.Multiples.{scale_zero, length-scale, dot-scale, rows-scale, scale-zeros, scale-below}
+use Rattle.lattice_laws.proofs.Multiples.{scale_once, norm-scale-abs, scale-sum, scale_back}
 use Rattle.lattice_laws.specs.VectorLists.{sum_of, weight, AreSized}
 use Rattle.cover_laws.specs.ConformalSums.{AreTerms}
 use Rattle.lattice_laws.proofs.VectorLists.{AreAgreeing, agree_all, all_below, agreeing_weight, below_agree, length-sum}

@@ -1,6 +1,7 @@
 -- The complexity of a list that is complete for the lattice of the link matrix: below each vector that is not 0, and
 -- whose image is as the phase wants it, stands one that is no heavier.
-use Rattle.std.proofs.Common.{◌≡◌, ℕ, ◌<◌, ◌≤◌, Bool, true, false, cond, List, length, take, refl, ap, arith, sym, ◌∙◌, Contains, ◌⊎◌, inl, inr, subst}
+use Rattle.std.proofs.Common.{◌≡◌, ℕ, ◌<◌, ◌≤◌, Bool, true, false, cond, List, length, take, refl, ap, arith, sym, ◌∙◌}
+use Rattle.std.proofs.Common.{Contains, ◌⊎◌, inl, inr, subst}
 use Rattle.std.specs.List.{list_all, filter}
 use Rattle.std.proofs.lemmas.List.Elements.{All-contains}
 use Rattle.fold_theory.specs.declared.Phase.{Phase}

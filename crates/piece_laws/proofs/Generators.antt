@@ -1,12 +1,14 @@
 -- The generators of a list that is complete for the lattice of a matrix: each vector without products with the rows is
 -- written by counts of them.
-use Rattle.std.proofs.Common.{◌≡◌, true, List, [], ◌∷◌, length, map, take, drop, ap, sym, ◌∙◌, Contains, inl, inr, subst}
+use Rattle.std.proofs.Common.{◌≡◌, true, List, [], ◌∷◌, length, map, take, drop, ap, sym, ◌∙◌, Contains, inl, inr}
+use Rattle.std.proofs.Common.{subst}
 use Rattle.std.specs.List.{AllByRecursion}
 use Rattle.std.proofs.lemmas.List.{take_at, drop_at}
 use Rattle.lattice_theory.specs.Vectors.{Vector, ◌⊑◌, is_zero, add, opposite, zeros}
 use Rattle.lattice_theory.specs.Matrices.{Matrix, product, element}
 use Rattle.lattice_theory.specs.Lattices.{is_complete_for, kernel}
-use Rattle.lattice_laws.proofs.Conformal.{conforms-take, length_below, opposite-take, take-add, conforms-drop, opposite-drop, zero-opposite}
+use Rattle.lattice_laws.proofs.Conformal.{conforms-take, length_below, opposite-take, take-add, conforms-drop}
+use Rattle.lattice_laws.proofs.Conformal.{opposite-drop, zero-opposite}
 use Rattle.lattice_laws.proofs.Products.{length-zeros, zero-zeros, zeros-append}
 use Rattle.lattice_laws.proofs.Elements.{element_in, width}
 use Rattle.lattice_laws.proofs.SlackBases.{IsSigned}

@@ -4,6 +4,7 @@ pub mod LinkMisses
 pub mod ConvexParts
 pub mod PointParts
 pub mod Points
+pub mod BrickEnds
 pub mod Misses
 pub mod Bricks
 pub mod Shares

@@ -1,6 +1,7 @@
 -- What linking rows miss, by their relations. With a part v of the way from x to y, the two points x + v and y - v
 -- together miss their rows by no more than x and y do. Between two points that miss no row, no equation changes.
-use Rattle.std.proofs.Common.{◌≡◌, ℕ, ◌+◌, ◌≤◌, ℤ, pos, negsuc, ◌+ℤ◌, ◌-ℤ◌, neg_ℤ, true, ◌&&◌, List, [], ◌∷◌, length, sum, refl, ap, arith, ◌∙◌}
+use Rattle.std.proofs.Common.{◌≡◌, ℕ, ◌+◌, ◌≤◌, ℤ, pos, negsuc, ◌+ℤ◌, ◌-ℤ◌, neg_ℤ, true, ◌&&◌, List, [], ◌∷◌, length}
+use Rattle.std.proofs.Common.{sum, refl, ap, arith, ◌∙◌}
 use Rattle.std.proofs.lemmas.Int.{ints}
 use Rattle.std.proofs.lemmas.List.Sums.{sum_by-cons}
 use Rattle.std.specs.Ordering.{int_eq}

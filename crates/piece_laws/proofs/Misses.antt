@@ -1,12 +1,11 @@
 -- Where each vector within the bounds of a brick misses its rows, no point of the program is feasible.
-use Rattle.std.proofs.Common.{◌≡◌, ℕ, zero, suc, ◌+◌, ◌<◌, ◌≤◌, List, [], ◌∷◌, length, Some, slice_get, refl, ap, arith, ◌∙◌, subst}
+use Rattle.std.proofs.Common.{◌≡◌, ℕ, zero, suc, ◌+◌, ◌<◌, ◌≤◌, List, [], ◌∷◌, Some, slice_get, refl, ap, arith, ◌∙◌}
+use Rattle.std.proofs.Common.{subst}
 use Rattle.std.specs.List.{AllZip}
-use Rattle.std.proofs.lemmas.Option.{slice_get_within, get_or_from_slice_get}
-use Rattle.std.proofs.lemmas.List.Elements.{All-contains}
 use Rattle.fold_theory.specs.declared.Verdict.TheVariants.{InfeasibleBrick}
 use Rattle.lattice_theory.specs.Vectors.{Vector, norm1, sub}
 use Rattle.lattice_theory.specs.Matrices.{product}
-use Rattle.fold_theory.specs.Programs.{Program, Brick, Bricks, IsBrick, IsProgram, IsWithin, brick_residual}
+use Rattle.fold_theory.specs.Programs.{Program, Brick, Bricks, IsWithin, brick_residual}
 use Rattle.fold_theory.specs.Verdicts.{IsInfeasible, Holds}
 use Rattle.lattice_laws.proofs.Sums.{no_rest}
 
@@ -34,13 +33,6 @@ infeasible p place b residual there above least x feasible =
     let m = met_at p p.bricks x place b there feasible.within feasible.brick_rows in
     let none : brick_residual p b m.vector ≡ 0 = ap (λ w. norm1 (sub b.right w)) m.meets ∙ no_rest b.right in
     omega (arith, none, above, least m.vector m.within)
-
--- a brick of a program is a brick
-pub brick_at : (p : Program) (place : ℕ) (b : Brick) → IsProgram p → slice_get p.bricks place ≡ Some b →
-    IsBrick p.link.cols (length p.brick.rows) b
-brick_at p place b program there =
-    All-contains (IsBrick p.link.cols (length p.brick.rows)) p.bricks b program.each_brick
-    (place, slice_get_within p.bricks place b there, get_or_from_slice_get p.bricks place b b there)
 
 -- ---- the verdict
 

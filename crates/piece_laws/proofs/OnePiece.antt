@@ -1,5 +1,6 @@
 -- One piece of the way between two points, where the generators, the bound and the listed sums have what it takes.
-use Rattle.std.proofs.Common.{◌≡◌, ℕ, ◌<◌, ◌≤◌, List, [], ◌∷◌, length, map, refl, ap, arith, sym, ◌∙◌, Contains, inl, inr, subst}
+use Rattle.std.proofs.Common.{◌≡◌, ℕ, ◌<◌, ◌≤◌, List, [], ◌∷◌, length, map, refl, ap, arith, sym, ◌∙◌, Contains, inl}
+use Rattle.std.proofs.Common.{inr, subst}
 use Rattle.std.proofs.lemmas.Bool.{cases_lt}
 use Rattle.std.specs.List.{AllZip, AllByRecursion}
 use Rattle.fold_theory.specs.declared.Phase.{Phase}
@@ -14,7 +15,8 @@ use Rattle.lattice_laws.specs.VectorLists.{sum_of, weight, AreSized}
 use Rattle.piece_laws.proofs.Shares.{StayWithin}
 use Rattle.lattice_laws.proofs.Sums.{norm-zeros, zeros_below_sized}
 use Rattle.piece_laws.proofs.PieceCounts.{LightPart, piece_counts}
-use Rattle.piece_laws.proofs.Combinations.{combined, combined-add, combined-zeros, combined-sum, product-combined, rows-combined, IsWritten, Written, part_below, part_weighs}
+use Rattle.piece_laws.proofs.Combinations.{combined, combined-add, combined-zeros, combined-sum, product-combined}
+use Rattle.piece_laws.proofs.Combinations.{rows-combined, IsWritten, Written, part_below, part_weighs}
 use Rattle.lattice_laws.proofs.VectorLists.{length-sum}
 use Rattle.piece_laws.proofs.Points.{parts-sized}
 use Rattle.piece_laws.proofs.LinkMisses.{IsTight}

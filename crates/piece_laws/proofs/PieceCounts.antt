@@ -1,15 +1,18 @@
 -- The counts of one piece. Where two count vectors have different signs at a place, a unit of the one and its opposite
 -- of the other; where all of them agree, shares of a vector below their sum.
-use Rattle.std.proofs.Common.{◌≡◌, ℕ, zero, suc, ◌+◌, ◌<◌, ◌≤◌, ℤ, pos, negsuc, Bool, true, false, ◌&&◌, List, [], ◌∷◌, length, refl, ap, arith, sym, ◌∙◌, ◌⊎◌, inl, inr, subst}
+use Rattle.std.proofs.Common.{◌≡◌, ℕ, zero, suc, ◌+◌, ◌<◌, ◌≤◌, ℤ, pos, negsuc, Bool, true, false, ◌&&◌, List, [], ◌∷◌}
+use Rattle.std.proofs.Common.{length, refl, ap, arith, sym, ◌∙◌, ◌⊎◌, inl, inr, subst}
 use Rattle.std.proofs.lemmas.Int.{ints}
 use Rattle.std.proofs.lemmas.Bool.Decides.{nat_tests}
 use Rattle.lattice_theory.specs.Vectors.{Vector, ◌⊑◌, conforms, is_between, norm1, add, opposite, zeros}
 use Rattle.lattice_laws.proofs.Signs.{agrees, between_zero, clash}
 use Rattle.lattice_laws.proofs.Conformal.{agree, length_below, norm1-cons, norm-opposite, length-opposite, sub-opposite}
 use Rattle.lattice_laws.proofs.Products.{length-zeros}
-use Rattle.lattice_laws.proofs.Sums.{add_zeros, zeros_add, opposite-zeros, norm-zeros, sub_itself, zeros_below, zeros_below_sized}
+use Rattle.lattice_laws.proofs.Sums.{add_zeros, zeros_add, opposite-zeros, norm-zeros, sub_itself, zeros_below}
+use Rattle.lattice_laws.proofs.Sums.{zeros_below_sized}
 use Rattle.lattice_laws.specs.VectorLists.{sum_of, weight, AreSized}
-use Rattle.lattice_laws.proofs.VectorLists.{agreeing_weight, norm_sum_of, ClashesWithOne, ClashingPair, agreeing_or_clashing}
+use Rattle.lattice_laws.proofs.VectorLists.{agreeing_weight, norm_sum_of, ClashesWithOne, ClashingPair}
+use Rattle.lattice_laws.proofs.VectorLists.{agreeing_or_clashing}
 use Rattle.piece_laws.proofs.Shares.{StayWithin, Shares, shares_of}
 
 -- ---- units

@@ -1,17 +1,20 @@
 -- Points of several bricks: their sums, what the linking rows miss at them, and two parts of the phase cost.
-use Rattle.std.proofs.Common.{◌≡◌, ℕ, suc, ◌+◌, ◌≤◌, ◌+ℤ◌, ◌-ℤ◌, ◌≤ℤ◌, true, List, [], ◌∷◌, length, map, refl, ap, arith, sym, ◌∙◌, subst}
+use Rattle.std.proofs.Common.{◌≡◌, ℕ, suc, ◌+◌, ◌≤◌, ◌+ℤ◌, ◌-ℤ◌, ◌≤ℤ◌, true, List, [], ◌∷◌, length, map, refl, ap}
+use Rattle.std.proofs.Common.{arith, sym, ◌∙◌, subst}
 use Rattle.std.proofs.lemmas.Int.{ints}
-use Rattle.std.specs.List.{AllZip, AllByRecursion}
+use Rattle.std.specs.List.{AllZip, AllByRecursion, list_all}
 use Rattle.fold_theory.specs.declared.Phase.{Phase}
 use Rattle.fold_theory.specs.declared.Phase.TheVariants.{Closed, Counted}
 use Rattle.lattice_theory.specs.Lists.{total, zip_with}
-use Rattle.lattice_theory.specs.Vectors.{Vector, ◌⊑◌, norm1, add, sub, zeros, dot}
+use Rattle.lattice_theory.specs.Vectors.{Vector, ◌⊑◌, norm1, add, sub, zeros, dot, is_zero}
 use Rattle.lattice_theory.specs.Matrices.{product}
-use Rattle.lattice_laws.proofs.Products.{dot-add, dot-zeros, rows-add, length-rows, length-zeros, rows-sub}
+use Rattle.lattice_laws.proofs.Products.{dot-add, dot-zeros, rows-add, length-rows, length-zeros, rows-sub, zeros_is}
 use Rattle.lattice_laws.proofs.Conformal.{length_below, norm_split, norm_none, length-add}
-use Rattle.fold_theory.specs.Programs.{Program, Brick, Bricks, IsBrick, AreWithin, link_rests, link_miss, keeps_equations, phase_cost}
-use Rattle.lattice_laws.proofs.Sums.{add_zeros, length-sub, sub_swap, same_vector, sub_itself, interchange, sub_interchange, add_assoc_v}
-use Rattle.piece_laws.proofs.Bounds.{within_parts, length-within}
+use Rattle.fold_theory.specs.Programs.{Program, Brick, Bricks, IsBrick, AreWithin, link_rests, link_miss}
+use Rattle.fold_theory.specs.Programs.{keeps_equations, phase_cost}
+use Rattle.lattice_laws.proofs.Sums.{add_zeros, length-sub, sub_swap, same_vector, sub_itself, interchange}
+use Rattle.lattice_laws.proofs.Sums.{sub_interchange, add_assoc_v}
+use Rattle.piece_laws.proofs.Bounds.{within_parts}
 use Rattle.piece_laws.proofs.LinkMisses.{missed_parts, equations_kept}
 use Rattle.lattice_laws.specs.VectorLists.{sum_of, weight, AreSized}
 use Rattle.lattice_laws.proofs.VectorLists.{length-sum}
@@ -20,6 +23,8 @@ use Rattle.piece_laws.specs.Points.{forth, back, ArePartsOf, way}
 use Rattle.run_theory.specs.Walks.{walk_end}
 use Rattle.run_theory.specs.Steps.{moved}
 use Rattle.lattice_laws.proofs.Multiples.{scale_once}
+use Rattle.lattice_laws.proofs.Tests.{and_true}
+use Rattle.fold_laws.proofs.Bounds.{length-within}
 
 module _ (t : ℕ) where
   -- the vectors of x + h, of y - h, and of parts have t entries
@@ -216,13 +221,6 @@ points_sized t s (b ∷ bs) [] is within = absurd within
 points_sized t s (b ∷ bs) (v ∷ x) is within =
     (length-within b v within.0 ∙ is.0.lower_size, points_sized t s bs x is.1 within.1)
 
--- and as many as there are bricks
-pub point-length : (bs : List Brick) (x : Bricks) → AreWithin bs x → length x ≡ length bs
-point-length [] [] within = refl
-point-length [] (v ∷ x) within = absurd within
-point-length (b ∷ bs) [] within = absurd within
-point-length (b ∷ bs) (v ∷ x) within = ap suc (point-length bs x within.1)
-
 -- ---- walks
 
 -- a walk ends at the sum of its moves
@@ -238,3 +236,13 @@ pub moved_once : (x h : Bricks) → moved x 0 h ≡ forth x h
 moved_once [] h = refl
 moved_once (v ∷ x) [] = refl
 moved_once (v ∷ x) (d ∷ h) = λ i. add v (scale_once d i) ∷ moved_once x h i
+
+-- a move of zeros leads nowhere
+pub forth_none : (t : ℕ) (x h : Bricks) → AreSized t x → AreSized t h → length h ≡ length x →
+    list_all is_zero h ≡ true → forth x h ≡ x
+forth_none t [] h sx sh size none = refl
+forth_none t (v ∷ x) [] sx sh size none = absurd (omega arith)
+forth_none t (v ∷ x) (d ∷ h) sx sh size none =
+    let q = and_true (is_zero d) (list_all is_zero h) none in
+    let here : add v d ≡ v = ap (add v) (zeros_is d q.0 ∙ ap zeros sh.0) ∙ add_zeros v t sx.0 in
+    λ i. here i ∷ forth_none t x h sx.1 sh.1 (omega arith) q.1 i

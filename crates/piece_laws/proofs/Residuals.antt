@@ -1,6 +1,7 @@
 -- Two parts of a distance: with a part v of the way from x to y, the two points x + v and y - v together miss their
 -- aim by no more than x and y do. So for numbers, for vectors, and for the rows of a brick.
-use Rattle.std.proofs.Common.{◌≡◌, ◌+◌, ◌≤◌, ℤ, ◌+ℤ◌, ◌-ℤ◌, unsigned_abs, true, [], ◌∷◌, length, ap, arith, sym, ◌∙◌, subst}
+use Rattle.std.proofs.Common.{◌≡◌, ◌+◌, ◌≤◌, ℤ, ◌+ℤ◌, ◌-ℤ◌, unsigned_abs, true, [], ◌∷◌, length, ap, arith, sym, ◌∙◌}
+use Rattle.std.proofs.Common.{subst}
 use Rattle.std.proofs.lemmas.Int.{ints}
 use Rattle.lattice_theory.specs.Vectors.{Vector, ◌⊑◌, conforms, is_between, norm1, add, sub}
 use Rattle.lattice_theory.specs.Matrices.{product}

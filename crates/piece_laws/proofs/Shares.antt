@@ -1,12 +1,14 @@
 -- Shares of a count: from count vectors that agree, and a vector q below their sum, a part of each such that the parts
 -- add up to q and no sum of the first parts is heavier than q. Those that come first serve first.
-use Rattle.std.proofs.Common.{◌≡◌, ℕ, ◌+◌, ◌<◌, ◌≤◌, ℤ, ◌+ℤ◌, ◌-ℤ◌, unsigned_abs, true, ◌&&◌, List, [], ◌∷◌, refl, ap, arith, sym, ◌∙◌, inl, inr}
+use Rattle.std.proofs.Common.{◌≡◌, ℕ, ◌+◌, ◌<◌, ◌≤◌, ℤ, ◌+ℤ◌, ◌-ℤ◌, unsigned_abs, true, ◌&&◌, List, [], ◌∷◌, refl, ap}
+use Rattle.std.proofs.Common.{arith, sym, ◌∙◌, inl, inr}
 use Rattle.std.proofs.lemmas.Int.{ints}
 use Rattle.std.proofs.lemmas.Bool.{cases_lt}
 use Rattle.std.specs.List.{AllZip}
 use Rattle.lattice_theory.specs.Vectors.{Vector, ◌⊑◌, conforms, is_between, norm1, add, sub}
 use Rattle.lattice_laws.proofs.Tests.{and_true}
-use Rattle.lattice_laws.proofs.Signs.{agrees, between_refl, clash, IsPart, part_of, one_zero, abs_parts, between_of, no_clash}
+use Rattle.lattice_laws.proofs.Signs.{agrees, between_refl, clash, IsPart, part_of, one_zero, abs_parts, between_of}
+use Rattle.lattice_laws.proofs.Signs.{no_clash}
 use Rattle.lattice_laws.proofs.Conformal.{agree, add_rest, norm_split, norm_sum}
 use Rattle.lattice_laws.specs.VectorLists.{sum_of, AreSized}
 use Rattle.lattice_laws.proofs.VectorLists.{AreAgreeing, agree_all}

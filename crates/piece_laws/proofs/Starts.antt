@@ -10,13 +10,16 @@ use Rattle.lattice_theory.specs.Matrices.{product}
 use Rattle.lattice_laws.specs.VectorLists.{AreSized}
 use Rattle.lattice_laws.proofs.Sums.{sub_itself, sub_zeros}
 use Rattle.lattice_laws.proofs.Products.{rows-sub}
-use Rattle.fold_theory.specs.Programs.{Program, Brick, Bricks, IsBrick, IsProgram, AreWithin, link_rests, link_miss, phase_cost}
+use Rattle.fold_theory.specs.Programs.{Program, Brick, Bricks, IsBrick, IsProgram, AreWithin, link_rests, link_miss}
+use Rattle.fold_theory.specs.Programs.{phase_cost}
 use Rattle.run_theory.specs.Steps.{AllowsEnd}
 use Rattle.run_theory.specs.Starts.{IsStart}
+use Rattle.fold_laws.proofs.Points.{point-length}
 use Rattle.piece_laws.specs.Points.{forth, back, way, image, IsPartOfWay}
 use Rattle.piece_laws.specs.Pieces.{IsStill}
 use Rattle.piece_laws.proofs.LinkMisses.{IsTight}
-use Rattle.piece_laws.proofs.Points.{back-sized, parts-sized, miss_parts, way_kept, parts-length, parts_within, phase_parts, points_sized, point-length}
+use Rattle.piece_laws.proofs.Points.{back-sized, parts-sized, miss_parts, way_kept, parts-length, parts_within}
+use Rattle.piece_laws.proofs.Points.{phase_parts, points_sized}
 
 -- the bricks of a program, with the columns of the brick matrix
 pub bricks_of : (p : Program) → IsProgram p → AllByRecursion (IsBrick p.brick.cols (length p.brick.rows)) p.bricks

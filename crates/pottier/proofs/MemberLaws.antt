@@ -1,6 +1,6 @@
 -- Laws of members, which stand one behind the other in one block: the one at a place, and one more.
-use Rattle.std.proofs.Common.{◌≡◌, ℕ, ◌+◌, ◌-◌, ◌*◌, ◌<◌, ◌≤◌, List, [], ◌∷◌, ◌++◌, length, take, drop, refl, ap, arith, sym}
-use Rattle.std.proofs.Common.{◌∙◌, subst, Some, slice_get, flat_map, map, get_or, Bor}
+use Rattle.std.proofs.Common.{◌≡◌, ℕ, ◌+◌, ◌-◌, ◌*◌, ◌<◌, ◌≤◌, List, [], ◌∷◌, ◌++◌, length, take, drop, refl, ap, arith}
+use Rattle.std.proofs.Common.{sym, ◌∙◌, subst, Some, slice_get, flat_map, map, get_or, Bor}
 use Rattle.std.specs.List.{All}
 use Rattle.std.specs.List.Sorted.{IsSorted, IsPermutation}
 use Rattle.std.specs.Ordering.{is_lt}
@@ -10,7 +10,8 @@ use Rattle.std.proofs.lemmas.List.Sorted.{All-permutation, IsPermutation-map}
 use Rattle.std.proofs.lemmas.Option.{get_or_from_slice_get, slice_get_within}
 use Rattle.lattice_theory.specs.Vectors.{Vector, lex_cmp}
 use Rattle.lattice_theory.specs.Matrices.{rows_of}
-use Rattle.mat_files.proofs.MatrixLaws.{length_rows_of, row_of_rows, all_rows, even_rows}
+use Rattle.lattice_laws.proofs.VectorLists.{length_rows_of}
+use Rattle.mat_files.proofs.MatrixLaws.{row_of_rows, all_rows, even_rows}
 use Rattle.pottier.proofs.BasisLaws.{entries_fit, rows_again, flat_push}
 
 -- ---- the member at a place
@@ -42,31 +43,33 @@ pub same_width : (width place : ℕ) (vs : List Vector) (member : Vector) → Al
     slice_get vs place ≡ Some member → All (λ v. length v ≡ length member) vs
 same_width width place vs member even is =
     subst (λ n. All (λ v. length v ≡ n) vs)
-    (sym (even place [] (slice_get_within vs place member is)) ∙ ap length (get_or_from_slice_get vs place member [] is))
+    (sym (even place [] (slice_get_within vs place member is))
+    ∙ ap length (get_or_from_slice_get vs place member [] is))
     even
 
 -- ---- one member more
 
 module _ (count width : ℕ) (entries member longer : Vector) (fits : length entries ≡ count * width)
-    (same : All (λ v. length v ≡ length member) (rows_of count width entries)) (added : longer ≡ entries ++ member) where
-  one_more : (count + 1) ≡ length (rows_of count width entries ++ member ∷ [])
-  one_more = omega (arith, length_push (rows_of count width entries) member, length_rows_of count width entries)
+    (same : All (λ v. length v ≡ length member) (rows_of count width entries)) (added : longer ≡ entries ++ member)
+  where
+    one_more : (count + 1) ≡ length (rows_of count width entries ++ member ∷ [])
+    one_more = omega (arith, length_push (rows_of count width entries) member, length_rows_of count width entries)
 
-  flat : longer ≡ flat_map (λ row. row) (rows_of count width entries ++ member ∷ [])
-  flat =
-      added ∙ ap (λ t. t ++ member) (sym (all_rows count width entries fits))
-      ∙ sym (flat_push (rows_of count width entries) member)
+    flat : longer ≡ flat_map (λ row. row) (rows_of count width entries ++ member ∷ [])
+    flat =
+        added ∙ ap (λ t. t ++ member) (sym (all_rows count width entries fits))
+        ∙ sym (flat_push (rows_of count width entries) member)
 
-  even : All (λ v. length v ≡ length member) (rows_of count width entries ++ member ∷ [])
-  even = All-push (λ v. length v ≡ length member) (rows_of count width entries) member same refl
+    even : All (λ v. length v ≡ length member) (rows_of count width entries ++ member ∷ [])
+    even = All-push (λ v. length v ≡ length member) (rows_of count width entries) member same refl
 
-  pub more_fit : length longer ≡ (count + 1) * length member
-  more_fit =
-      entries_fit (count + 1) (length member) (rows_of count width entries ++ member ∷ []) longer one_more flat even
+    pub more_fit : length longer ≡ (count + 1) * length member
+    more_fit =
+        entries_fit (count + 1) (length member) (rows_of count width entries ++ member ∷ []) longer one_more flat even
 
-  pub members_more : rows_of (count + 1) (length member) longer ≡ rows_of count width entries ++ member ∷ []
-  members_more =
-      rows_again (count + 1) (length member) (rows_of count width entries ++ member ∷ []) longer one_more flat even
+    pub members_more : rows_of (count + 1) (length member) longer ≡ rows_of count width entries ++ member ∷ []
+    members_more =
+        rows_again (count + 1) (length member) (rows_of count width entries ++ member ∷ []) longer one_more flat even
 
 -- ---- members in another order
 
@@ -86,7 +89,8 @@ lent_sorted (x ∷ xs) s k d low high =
     get_or-map (λ v. v.now) (x ∷ xs) (k + 1) x d there in
     (λ i. is_lt (lex_cmp (second i) (first i))) ∙ s k x low there
 
-pub lent_push : (vs : List Vector) (order longer : List (Bor Vector)) (x : Bor Vector) (i : ℕ) → lent order ≡ take i vs →
+pub lent_push : (vs : List Vector) (order longer : List (Bor Vector)) (x : Bor Vector) (i : ℕ) →
+    lent order ≡ take i vs →
     longer ≡ order ++ x ∷ [] → slice_get vs i ≡ Some x.now → lent longer ≡ take (i + 1) vs
 lent_push vs order longer x i so_far added is =
     ap lent added ∙ map_push (λ v. v.now) order x ∙ ap (λ us. us ++ x.now ∷ []) so_far
@@ -100,7 +104,8 @@ lent_order vs first order i taken all permuted =
     (IsPermutation-map (λ v. v.now) first order permuted)
 
 -- those in the new order have the width of all
-pub lent_width : (width : ℕ) (vs : List Vector) (order : List (Bor Vector)) (so_far : List Vector) (i : ℕ) (d : Bor Vector) →
+pub lent_width : (width : ℕ) (vs : List Vector) (order : List (Bor Vector)) (so_far : List Vector) (i : ℕ)
+    (d : Bor Vector) →
     All (λ v. length v ≡ width) vs → IsPermutation vs (lent order) → so_far ≡ take i (lent order) → i < length order →
     All (λ v. length v ≡ length (get_or order i d).now) so_far
 lent_width width vs order so_far i d even permuted taken low =

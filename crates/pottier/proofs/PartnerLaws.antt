@@ -1,23 +1,22 @@
 -- Laws of the sign with which the second vector of a pair is taken.
-use Rattle.std.proofs.Common.{◌≡◌, ℕ, suc, zero, ◌<◌, ℤ, pos, negsuc, neg_ℤ, unsigned_abs, ◌^◌, Bool, true, false, not, ◌&&◌, cond, take, length, refl, ap, arith, sym, ◌∙◌, Contains, List, [], ◌∷◌, ◌⊎◌, inl, inr, subst}
+use Rattle.std.proofs.Common.{◌≡◌, ℕ, suc, zero, ◌<◌, ℤ, pos, negsuc, neg_ℤ, unsigned_abs, ◌^◌, Bool, true, false, not}
+use Rattle.std.proofs.Common.{◌&&◌, cond, take, length, refl, ap, arith, sym, ◌∙◌, Contains, List, [], ◌∷◌, ◌⊎◌, inl}
+use Rattle.std.proofs.Common.{inr, subst}
 use Rattle.std.specs.List.{All}
 use Rattle.std.proofs.lemmas.Int.{ints}
-use Rattle.std.proofs.lemmas.List.Elements.{All-weaker, All-map}
+use Rattle.std.proofs.lemmas.List.Elements.{All-weaker}
 use Rattle.std.proofs.lemmas.Bool.Decides.{nat_tests}
 use Rattle.lattice_theory.specs.Vectors.{Vector, norm1, opposite}
 use Rattle.lattice_theory.specs.BasisLimits.{IsNarrow}
-use Rattle.lattice_laws.proofs.Signs.{agrees, abs_opposite}
-use Rattle.lattice_laws.proofs.Conformal.{agree, length-opposite, entry-opposite, opposite-opposite, opposite-take, norm-opposite}
+use Rattle.lattice_laws.proofs.Signs.{agrees}
+use Rattle.lattice_laws.proofs.Conformal.{agree, length-opposite, entry-opposite, opposite-opposite, opposite-take}
+use Rattle.lattice_laws.proofs.Conformal.{norm-opposite}
 use Rattle.lattice_laws.proofs.SlackBases.{IsSigned}
 use Rattle.lattice_laws.proofs.Completion.{counts, counts_parts, new_entry}
+use Rattle.lattice_laws.proofs.Narrow.{narrow-opposite}
 use Rattle.pottier.specs.Partners.{partner, pair_counts, agrees_turned, agree_turned}
 
 -- ---- vectors with their signs turned
-
-pub narrow-opposite : (v : Vector) → IsNarrow v → IsNarrow (opposite v)
-narrow-opposite v h =
-    All-map (λ a. unsigned_abs a < 2 ^ 31) neg_ℤ v
-    (All-weaker (λ a. unsigned_abs a < 2 ^ 31) (λ a. unsigned_abs (neg_ℤ a) < 2 ^ 31) (λ a k. subst (λ n. n < 2 ^ 31) (sym (abs_opposite a)) k) v h)
 
 pub narrow_small : (v : Vector) → IsNarrow v → All (λ a. unsigned_abs a < 2 ^ 62) v
 narrow_small v h = All-weaker (λ a. unsigned_abs a < 2 ^ 31) (λ a. unsigned_abs a < 2 ^ 62) (λ a k. omega arith) v h
@@ -38,11 +37,13 @@ turned_clash (negsuc a) (negsuc b) h = grind (arith, nat_tests, ints)
 -- a pair counts with no other sign
 pub partner_is : (at : ℕ) (p q w : Vector) → (w ≡ q) ⊎ (w ≡ opposite q) → counts at p w ≡ true → w ≡ partner at p q
 partner_is at p q w (inl e) h =
-    let clash : agrees (new_entry at p) (new_entry at q) ≡ false = ap (λ v. agrees (new_entry at p) (new_entry at v)) (sym e) ∙ (counts_parts at p w h).1 in
+    let clash : agrees (new_entry at p) (new_entry at q) ≡ false =
+    ap (λ v. agrees (new_entry at p) (new_entry at v)) (sym e) ∙ (counts_parts at p w h).1 in
     e ∙ sym (ap (λ b. cond b (opposite q) q) clash)
 partner_is at p q w (inr e) h =
     let clash : agrees (new_entry at p) (neg_ℤ (new_entry at q)) ≡ false =
-    ap (agrees (new_entry at p)) (sym (entry-opposite at q)) ∙ ap (λ v. agrees (new_entry at p) (new_entry at v)) (sym e) ∙ (counts_parts at p w h).1 in
+    ap (agrees (new_entry at p)) (sym (entry-opposite at q))
+    ∙ ap (λ v. agrees (new_entry at p) (new_entry at v)) (sym e) ∙ (counts_parts at p w h).1 in
     e ∙ sym (ap (λ b. cond b (opposite q) q) (turned_clash (new_entry at p) (new_entry at q) clash))
 
 pub partner_either : (at : ℕ) (p q : Vector) → (partner at p q ≡ q) ⊎ (partner at p q ≡ opposite q)
@@ -58,7 +59,8 @@ partner_signed at vs p q c = elim (partner_either at p q) [
   | inr e ↦ inr (subst (Contains vs) (sym (ap opposite e ∙ opposite-opposite q)) c)
 ]
 
-pub partner_fits : (at size : ℕ) (p q : Vector) → (length q ≡ size) × IsNarrow q → (length (partner at p q) ≡ size) × IsNarrow (partner at p q)
+pub partner_fits : (at size : ℕ) (p q : Vector) → (length q ≡ size) × IsNarrow q → (length (partner at p q) ≡ size)
+    × IsNarrow (partner at p q)
 partner_fits at size p q h = elim (partner_either at p q) [
   | inl e ↦ subst (λ v. (length v ≡ size) × IsNarrow v) (sym e) h
   | inr e ↦ subst (λ v. (length v ≡ size) × IsNarrow v) (sym e) (length-opposite q ∙ h.0, narrow-opposite q h.1)
@@ -89,7 +91,8 @@ and_all true t e = ap not e
 and_all false t e = refl
 
 -- where the new entries clash, the second vector is taken as it is
-pub plain_counts : (at : ℕ) (p q : Vector) → agrees (new_entry at p) (new_entry at q) ≡ false → pair_counts at p q ≡ agree (take at p) (take at q)
+pub plain_counts : (at : ℕ) (p q : Vector) → agrees (new_entry at p) (new_entry at q) ≡ false →
+    pair_counts at p q ≡ agree (take at p) (take at q)
 plain_counts at p q h =
     let is : partner at p q ≡ q = ap (λ b. cond b (opposite q) q) h in
     ap (counts at p) is ∙ and_all (agree (take at p) (take at q)) (agrees (new_entry at p) (new_entry at q)) h
@@ -99,12 +102,15 @@ pub turned_counts : (at : ℕ) (p q : Vector) → agrees (new_entry at p) (new_e
     pair_counts at p q ≡ (not (agrees_turned (new_entry at p) (new_entry at q)) && agree_turned (take at p) (take at q))
 turned_counts at p q h =
     let is : partner at p q ≡ opposite q = ap (λ b. cond b (opposite q) q) h in
-    ap (counts at p) is ∙ ap (λ y. agree (take at p) (take at (opposite q)) && not (agrees (new_entry at p) y)) (entry-opposite at q)
+    ap (counts at p) is ∙ ap (λ y. agree (take at p) (take at (opposite q)) && not (agrees (new_entry at p) y))
+    (entry-opposite at q)
     ∙ ap (λ v. agree (take at p) v && not (agrees_turned (new_entry at p) (new_entry at q))) (sym (opposite-take at q))
     ∙ ap (λ b. b && not (agrees_turned (new_entry at p) (new_entry at q))) (sym (turned_agree (take at p) (take at q)))
     ∙ and_comm (agree_turned (take at p) (take at q)) (not (agrees_turned (new_entry at p) (new_entry at q)))
 
 -- the two tests together
-pub counts_by : (at : ℕ) (p q : Vector) (same turned : Bool) → same ≡ agrees (new_entry at p) (new_entry at q) → turned ≡ agrees_turned (new_entry at p) (new_entry at q) → same ≡ true →
+pub counts_by : (at : ℕ) (p q : Vector) (same turned : Bool) → same ≡ agrees (new_entry at p) (new_entry at q) →
+    turned ≡ agrees_turned (new_entry at p) (new_entry at q) → same ≡ true →
     pair_counts at p q ≡ (not turned && agree_turned (take at p) (take at q))
-counts_by at p q same turned e f h = turned_counts at p q (sym e ∙ h) ∙ ap (λ b. not b && agree_turned (take at p) (take at q)) (sym f)
+counts_by at p q same turned e f h = turned_counts at p q (sym e ∙ h)
+    ∙ ap (λ b. not b && agree_turned (take at p) (take at q)) (sym f)

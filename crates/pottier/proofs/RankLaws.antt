@@ -1,10 +1,10 @@
 -- Laws of the ranks of members: one member more, and that a look-up may end at half the norm.
-use Rattle.std.proofs.Common.{◌≡◌, ℕ, ◌+◌, ◌-◌, ◌/◌, ◌<◌, ◌≤◌, true, false, ◌||◌, Bool, MatchBool, leb, ltb, List, [], ◌∷◌}
-use Rattle.std.proofs.Common.{◌++◌, length, take, drop, get_or, refl, ap, slice_get, Some, arith, sym, ◌∙◌, Contains, ◌⊎◌, inl, inr}
-use Rattle.std.proofs.Common.{subst, leb-true, leb-false, ltb-true}
+use Rattle.std.proofs.Common.{◌≡◌, ℕ, ◌+◌, ◌-◌, ◌/◌, ◌<◌, ◌≤◌, true, false, ◌||◌, Bool, MatchBool, leb, ltb, List, []}
+use Rattle.std.proofs.Common.{◌∷◌, ◌++◌, length, take, drop, get_or, refl, ap, slice_get, Some, arith, sym, ◌∙◌}
+use Rattle.std.proofs.Common.{Contains, ◌⊎◌, inl, inr, subst, leb-true, leb-false, ltb-true}
 use Rattle.std.specs.List.{All, AllWithin, insert}
 use Rattle.std.specs.List.Sorted.{IsPartitionPoint, IsPermutation}
-use Rattle.std.proofs.lemmas.Bool.{cases_lt, cases_eq}
+use Rattle.std.proofs.lemmas.Bool.{cases_lt, cases_eq, or_right}
 use Rattle.std.proofs.lemmas.List.{get_or_append_left, get_or_default, length_push, get_or-take, get_or-drop}
 use Rattle.std.proofs.lemmas.List.{length-take, length-drop}
 use Rattle.std.proofs.lemmas.Option.{get_or_from_slice_get, slice_get_within}
@@ -184,16 +184,12 @@ module _ (m : Matrix) (at : ℕ) (vs : List Vector) (z : Vector) (stage : IsStag
       by_sign : (e : Vector) → IsSigned vs e → e ⊑ z → IsEnough at z e → ⊥
       by_sign e (inl there) below enough = at_place e there (ap (λ t. t || conforms (opposite e) z) below) enough
       by_sign e (inr there) below enough =
-          at_place (opposite e) there (either (conforms (opposite e) z) (conforms (opposite (opposite e)) z)
+          at_place (opposite e) there (or_right (conforms (opposite e) z) (conforms (opposite (opposite e)) z)
           (ap (λ u. conforms u z) (opposite-opposite e) ∙ below))
           (subst (λ n. (n + n ≤ norm1 (take at z)) ⊎ (n ≡ norm1 (take at z))) (sym norm_turned) enough)
         where
           norm_turned : norm1 (take at (opposite e)) ≡ norm1 (take at e)
           norm_turned = ap norm1 (sym (opposite-take at e)) ∙ norm-opposite (take at e)
-
-          either : (s t : Bool) → t ≡ true → (s || t) ≡ true
-          either true t passes = refl
-          either false t passes = passes
 
 -- where all ranks of a part pass, all between its two places do
 pub AllWithin-part : (P : Rank → Type 0) (rs : List Rank) (from to : ℕ) → to ≤ length rs →

@@ -1,24 +1,35 @@
 -- Laws of one row more and of the last row: the stage that it begins, the limits that stay passed, and the
 -- slack basis that is left.
-use Rattle.std.proofs.Common.{◌≡◌, ◌≢◌, ℕ, zero, suc, ◌+◌, ◌<◌, ◌≤◌, ◌^◌, unsigned_abs, true, false, List, [], ◌∷◌, ◌++◌, length, map, take, drop, get_or, refl, ap, arith, sym, ◌∙◌, IsTrue, Contains, inl, inr, subst, length-append, add-one, pos, set, Some, slice_get}
+use Rattle.std.proofs.Common.{◌≡◌, ◌≢◌, ℕ, zero, suc, ◌+◌, ◌<◌, ◌≤◌, ◌^◌, unsigned_abs, true, false, List, [], ◌∷◌}
+use Rattle.std.proofs.Common.{◌++◌, length, map, take, drop, get_or, refl, ap, arith, sym, ◌∙◌, IsTrue, Contains, inl}
+use Rattle.std.proofs.Common.{inr, subst, length-append, add-one, pos, set, Some, slice_get}
 use Rattle.std.specs.List.{All}
-use Rattle.std.proofs.lemmas.List.{length-map, get_or-map, take-append-drop, take_more, get_or_append_left, length_push, map_push, take_all, length-take-le}
-use Rattle.std.proofs.lemmas.List.Elements.{All-contains, All-get_or, All-map, All-nil, All-cons, All-push, All-take, All-drop, All-replicate, All-weaker, Contains-get_or}
+use Rattle.std.proofs.lemmas.List.{length-map, get_or-map, take_more, get_or_append_left, length_push, map_push}
+use Rattle.std.proofs.lemmas.List.{take_all, length-take-le}
+use Rattle.std.proofs.lemmas.List.Elements.{All-contains, All-get_or, All-map, All-nil, All-push, All-take, All-weaker}
+use Rattle.std.proofs.lemmas.List.Elements.{Contains-get_or}
 use Rattle.std.specs.List.Sorted.{IsSorted, IsPermutation}
 use Rattle.std.proofs.lemmas.List.Sorted.{All-permutation, Contains-permutation, length_permutation}
 use Rattle.std.proofs.lemmas.List.Kept.{AllPairs-cons}
 use Rattle.std.proofs.lemmas.Option.{slice_get-get_or}
-use Rattle.lattice_theory.specs.Vectors.{Vector, ◌⊑◌, dot, zeros, is_zero, is_rising, lex_cmp, lex_less, leads_positive, opposite}
-use Rattle.lattice_theory.specs.Matrices.{Matrix, unit_vector, rows_of}
+use Rattle.lattice_theory.specs.Vectors.{Vector, ◌⊑◌, dot, zeros, is_zero, is_rising, lex_cmp, lex_less, leads_positive}
+use Rattle.lattice_theory.specs.Vectors.{opposite}
+use Rattle.lattice_theory.specs.Matrices.{Matrix, unit_vector}
 use Rattle.lattice_theory.specs.Lattices.{InLattice, IsMinimal, IsSlackBasis}
 use Rattle.lattice_theory.specs.BasisLimits.{IsNarrow, IsBasisElement, ExceedsBasis, IsBasisWithin}
 use Rattle.lattice_laws.proofs.Conformal.{leads_not_both, opposite-opposite, opposite-take, opposite_nonzero}
-use Rattle.lattice_laws.proofs.Elements.{width, with_rows, width-with_rows, lifted, lifted_in, cut-lifted, cut_in, cut_nonzero, is_lifted, element-lifted, closed_opposite}
-use Rattle.lattice_laws.proofs.Rising.{AreDifferent, rising_above, rising_tail, lex_less_irrefl, different_permutation, rising_from_sorted}
+use Rattle.lattice_laws.proofs.Elements.{width, with_rows, width-with_rows, lifted, lifted_in, cut-lifted, cut_in}
+use Rattle.lattice_laws.proofs.Elements.{cut_nonzero, is_lifted, element-lifted, closed_opposite, first_rows}
+use Rattle.lattice_laws.proofs.Elements.{rows_apart}
+use Rattle.lattice_laws.proofs.Rising.{AreDifferent, rising_above, rising_tail, lex_less_irrefl, different_permutation}
+use Rattle.lattice_laws.proofs.Rising.{rising_from_sorted}
 use Rattle.lattice_laws.proofs.SlackBases.{IsSigned, exceeds_by_many}
-use Rattle.lattice_laws.proofs.UnitVectors.{first_units, without_rows, length-unit, length-first_units, units_elements, units_differ, units_cover}
+use Rattle.lattice_laws.proofs.UnitVectors.{first_units, without_rows, length-unit, length-first_units, units_elements}
+use Rattle.lattice_laws.proofs.UnitVectors.{units_differ, units_cover}
 use Rattle.lattice_laws.proofs.Completion.{CoversCut}
-use Rattle.pottier.specs.Stages.{AreMembers, AreFitting, IsStage, IsCompleted, first_rows, with_product}
+use Rattle.lattice_laws.proofs.Narrow.{narrow-unit}
+use Rattle.lattice_laws.proofs.Members.{mapped}
+use Rattle.pottier.specs.Stages.{AreMembers, AreFitting, IsStage, IsCompleted, with_product}
 use Rattle.pottier.proofs.MemberLaws.{taken_more}
 use Rattle.pottier.specs.Faults.{LimitOnly, IsBasisFault}
 use Rattle.pottier.specs.declared.fault.BasisFault.{BasisFault}
@@ -26,21 +37,20 @@ use Rattle.pottier.specs.declared.fault.BasisFault.TheVariants.{Limit, Memory}
 
 -- ---- lists of lifted elements
 
-contains-map : (f : Vector → Vector) (vs : List Vector) (v : Vector) → Contains vs v → Contains (map f vs) (f v)
-contains-map f vs v (k, low, e) =
-    (k, omega (arith, length-map vs f), get_or-map f vs k v (f v) low ∙ ap f e)
-
 -- different elements are different with further entries
-lifted_different : (m : Matrix) (more vs : List Vector) → ((e : Vector) → Contains vs e → InLattice m e) → AreDifferent vs → AreDifferent (map (lifted m more) vs)
+lifted_different : (m : Matrix) (more vs : List Vector) → ((e : Vector) → Contains vs e → InLattice m e) →
+    AreDifferent vs → AreDifferent (map (lifted m more) vs)
 lifted_different m more vs inside h i j d before low e =
     let size : length (map (lifted m more) vs) ≡ length vs = length-map vs (lifted m more) in
     let at_i : i < length vs = omega arith in
     let at_j : j < length vs = omega arith in
     let u = get_or vs i d in
     let v = get_or vs j d in
-    let same : lifted m more u ≡ lifted m more v = sym (get_or-map (lifted m more) vs i d d at_i) ∙ e ∙ get_or-map (lifted m more) vs j d d at_j in
+    let same : lifted m more u ≡ lifted m more v = sym (get_or-map (lifted m more) vs i d d at_i) ∙ e
+    ∙ get_or-map (lifted m more) vs j d d at_j in
     h i j d before at_j
-    (sym (cut-lifted m more u (inside u (Contains-get_or vs i d at_i))) ∙ ap (take (width m)) same ∙ cut-lifted m more v (inside v (Contains-get_or vs j d at_j)))
+    (sym (cut-lifted m more u (inside u (Contains-get_or vs i d at_i))) ∙ ap (take (width m)) same
+    ∙ cut-lifted m more v (inside v (Contains-get_or vs j d at_j)))
 
 each_member : (P : Vector → Type 0) (vs : List Vector) → ((v : Vector) → Contains vs v → P v) → All P vs
 each_member P vs h = λ k d low. h (get_or vs k d) (Contains-get_or vs k d low)
@@ -49,7 +59,8 @@ rising_different : (vs : List Vector) → is_rising vs ≡ true → AreDifferent
 rising_different [] h = λ i j d before low. absurd (omega arith)
 rising_different (v ∷ vs) h =
     AllPairs-cons (λ u w. u ≢ w) v vs
-    (each_member (λ w. v ≢ w) vs (λ w c e. lex_less_irrefl w (subst (λ u. lex_less u w ≡ true) e (rising_above v vs w h c))))
+    (each_member (λ w. v ≢ w) vs (λ w c e. lex_less_irrefl w
+    (subst (λ u. lex_less u w ≡ true) e (rising_above v vs w h c))))
     (rising_different vs (rising_tail v vs h))
 
 narrow_front : (u v : Vector) → IsNarrow (u ++ v) → IsNarrow u
@@ -59,20 +70,27 @@ narrow_front u v h = λ k d low.
 -- ---- limits
 
 -- a limit that is passed for the first rows is passed for more
-pub exceeds_lifted : (m : Matrix) (more : List Vector) (limit : ℕ) → ExceedsBasis m limit → ExceedsBasis (with_rows m more) limit
+pub exceeds_lifted : (m : Matrix) (more : List Vector) (limit : ℕ) → ExceedsBasis m limit →
+    ExceedsBasis (with_rows m more) limit
 exceeds_lifted m more limit (inl (zs, rising, many, sound)) =
     exceeds_by_many (with_rows m more) limit (map (lifted m more) zs)
-    (lifted_different m more zs (λ e c. (All-contains (IsBasisElement m) zs e sound c).0.member) (rising_different zs rising))
+    (lifted_different m more zs (λ e c. (All-contains (IsBasisElement m) zs e sound c).0.member)
+    (rising_different zs rising))
     (omega (arith, many, length-map zs (lifted m more)))
-    (All-map (IsBasisElement (with_rows m more)) (lifted m more) zs (All-weaker (IsBasisElement m) (λ z. IsBasisElement (with_rows m more) (lifted m more z)) (λ z e. element-lifted m more z e) zs sound))
+    (All-map (IsBasisElement (with_rows m more)) (lifted m more) zs
+    (All-weaker (IsBasisElement m) (λ z. IsBasisElement (with_rows m more) (lifted m more z))
+    (λ z e. element-lifted m more z e) zs sound))
 exceeds_lifted m more limit (inr (z, e, wide)) =
-    inr (lifted m more z, element-lifted m more z e, λ narrow. wide (narrow_front z (map (λ row. dot row (take m.cols z)) more) narrow))
-
-pub rows_apart : (n : ℕ) (m : Matrix) → with_rows (first_rows n m) (drop n m.rows) ≡ m
-rows_apart n m = ap (λ rows. record { cols = m.cols; rows = rows }) (take-append-drop n m.rows)
+    inr (
+      lifted m more z,
+      element-lifted m more z e,
+      λ narrow. wide
+          (narrow_front z (map (λ row. dot row (take m.cols z)) more) narrow),
+    )
 
 pub exceeds_first : (n limit : ℕ) (m : Matrix) → ExceedsBasis (first_rows n m) limit → ExceedsBasis m limit
-exceeds_first n limit m h = subst (λ a. ExceedsBasis a limit) (rows_apart n m) (exceeds_lifted (first_rows n m) (drop n m.rows) limit h)
+exceeds_first n limit m h = subst (λ a. ExceedsBasis a limit) (rows_apart n m)
+    (exceeds_lifted (first_rows n m) (drop n m.rows) limit h)
 
 -- ---- the stage that a row begins
 
@@ -87,27 +105,32 @@ module _ (m : Matrix) (row : Vector) (size : m.cols ≡ length row) where
       is_lifted m (row ∷ []) (opposite z) (closed_opposite (with_rows m (row ∷ [])) z (lifted_in m (row ∷ []) e h))
       ∙ ap (lifted m (row ∷ [])) (sym (opposite-take (width m) z) ∙ ap opposite (cut-lifted m (row ∷ []) e h))
 
-  pub stage_started : (at : ℕ) (vs : List Vector) → width m ≡ at → IsCompleted m vs → IsStage (with_rows m (row ∷ [])) at (map (with_product row) vs)
+  pub stage_started : (at : ℕ) (vs : List Vector) → width m ≡ at → IsCompleted m vs →
+      IsStage (with_rows m (row ∷ [])) at (map (with_product row) vs)
   stage_started at vs e h =
       subst (λ f. IsStage (with_rows m (row ∷ [])) at (map f vs)) (λ i z. sym (product_is z) i)
       (record {
         size = omega (arith, width-with_rows m (row ∷ []), e);
         first = omega (arith, e);
         sound = All-map (IsBasisElement (with_rows m (row ∷ []))) (lifted m (row ∷ [])) vs
-            (All-weaker (IsBasisElement m) (λ z. IsBasisElement (with_rows m (row ∷ [])) (lifted m (row ∷ []) z)) (λ z k. element-lifted m (row ∷ []) z k) vs h.sound);
-        different = lifted_different m (row ∷ []) vs (λ z c. (All-contains (IsBasisElement m) vs z h.sound c).0.member) h.different;
+            (All-weaker (IsBasisElement m) (λ z. IsBasisElement (with_rows m (row ∷ [])) (lifted m (row ∷ []) z))
+            (λ z k. element-lifted m (row ∷ []) z k) vs h.sound);
+        different = lifted_different m (row ∷ []) vs (λ z c. (All-contains (IsBasisElement m) vs z h.sound c).0.member)
+            h.different;
         covers = covered;
       })
     where
       inside : (z : Vector) → IsSigned vs z → InLattice m z
       inside z (inl c) = (All-contains (IsBasisElement m) vs z h.sound c).0.member
       inside z (inr c) =
-          subst (InLattice m) (opposite-opposite z) (closed_opposite m (opposite z) (All-contains (IsBasisElement m) vs (opposite z) h.sound c).0.member)
+          subst (InLattice m) (opposite-opposite z) (closed_opposite m (opposite z)
+          (All-contains (IsBasisElement m) vs (opposite z) h.sound c).0.member)
 
       signed : (z : Vector) → IsSigned vs z → IsSigned (map (lifted m (row ∷ [])) vs) (lifted m (row ∷ []) z)
-      signed z (inl c) = inl (contains-map (lifted m (row ∷ [])) vs z c)
+      signed z (inl c) = inl (mapped (lifted m (row ∷ [])) vs z c)
       signed z (inr c) =
-          inr (subst (Contains (map (lifted m (row ∷ [])) vs)) (sym (lifted-opposite z (inside z (inr c)))) (contains-map (lifted m (row ∷ [])) vs (opposite z) c))
+          inr (subst (Contains (map (lifted m (row ∷ [])) vs)) (sym (lifted-opposite z (inside z (inr c))))
+          (mapped (lifted m (row ∷ [])) vs (opposite z) c))
 
       covered : CoversCut (with_rows m (row ∷ [])) at (map (lifted m (row ∷ [])) vs)
       covered y i n =
@@ -119,20 +142,24 @@ module _ (m : Matrix) (row : Vector) (size : m.cols ≡ length row) where
           )
 
   -- a wide product is a wide entry of the basis
-  pub exceeds_by_product : (limit : ℕ) (vs : List Vector) (z : Vector) → IsCompleted m vs → Contains vs z → (IsNarrow (with_product row z) → ⊥) → ExceedsBasis (with_rows m (row ∷ [])) limit
+  pub exceeds_by_product : (limit : ℕ) (vs : List Vector) (z : Vector) → IsCompleted m vs → Contains vs z →
+      (IsNarrow (with_product row z) → ⊥) → ExceedsBasis (with_rows m (row ∷ [])) limit
   exceeds_by_product limit vs z h c wide =
       inr (
         with_product row z,
-        subst (IsBasisElement (with_rows m (row ∷ []))) (sym (product_is z)) (element-lifted m (row ∷ []) z (All-contains (IsBasisElement m) vs z h.sound c)),
+        subst (IsBasisElement (with_rows m (row ∷ []))) (sym (product_is z))
+            (element-lifted m (row ∷ []) z (All-contains (IsBasisElement m) vs z h.sound c)),
         wide,
       )
 
 -- ---- the rows one after the other
 
-pub next_rows : (n : ℕ) (m : Matrix) (row : Vector) → n < length m.rows → slice_get m.rows n ≡ Some row → with_rows (first_rows n m) (row ∷ []) ≡ first_rows (n + 1) m
+pub next_rows : (n : ℕ) (m : Matrix) (row : Vector) → n < length m.rows → slice_get m.rows n ≡ Some row →
+    with_rows (first_rows n m) (row ∷ []) ≡ first_rows (n + 1) m
 next_rows n m row low e =
     let same : get_or m.rows n row ≡ row = cc (slice_get-get_or m.rows n row low) in
-    ap (λ rows. record { cols = m.cols; rows = rows }) (sym (take_more m.rows n row low ∙ ap (λ r. take n m.rows ++ r ∷ []) same))
+    ap (λ rows. record { cols = m.cols; rows = rows }) (sym (take_more m.rows n row low
+    ∙ ap (λ r. take n m.rows ++ r ∷ []) same))
 
 -- ---- the basis that is left
 
@@ -151,8 +178,10 @@ completed_slack m vs h rising = record {
         subst (Contains vs) (minimal.least e k.0.member k.0.nonzero b) c
     listed z e minimal leads (inr c) b =
         let k = All-contains (IsBasisElement m) vs (opposite e) h.sound c in
-        let inside : InLattice m e = subst (InLattice m) (opposite-opposite e) (closed_opposite m (opposite e) k.0.member) in
-        let nonzero : is_zero e ≡ false = subst (λ u. is_zero u ≡ false) (opposite-opposite e) (opposite_nonzero (opposite e) k.0.nonzero) in
+        let inside : InLattice m e = subst (InLattice m) (opposite-opposite e)
+        (closed_opposite m (opposite e) k.0.member) in
+        let nonzero : is_zero e ≡ false = subst (λ u. is_zero u ≡ false) (opposite-opposite e)
+        (opposite_nonzero (opposite e) k.0.nonzero) in
         let same : e ≡ z = minimal.least e inside nonzero b in
         absurd (leads_not_both z leads (ap (λ u. leads_positive (opposite u)) (sym same) ∙ k.1))
 
@@ -171,7 +200,8 @@ units_push t n units longer unit e f g =
 -- ---- refusals
 
 -- what one member refuses is a wide member of the list
-pub wide_member : (row : Vector) (vs : List Vector) (z : Vector) → Contains vs z → (fault : BasisFault) → LimitOnly (IsNarrow (with_product row z) → ⊥) fault →
+pub wide_member : (row : Vector) (vs : List Vector) (z : Vector) → Contains vs z → (fault : BasisFault) →
+    LimitOnly (IsNarrow (with_product row z) → ⊥) fault →
     LimitOnly ((v : Vector) × Contains vs v × (IsNarrow (with_product row v) → ⊥)) fault
 wide_member row vs z c Limit h = (z, c, h)
 wide_member row vs z c Memory h = tt
@@ -203,9 +233,13 @@ products_more row member longer vs done next i e is f g =
     g ∙ (λ k. e k ++ f k ∷ [])
     ∙ sym (ap (map (with_product row)) (taken_more vs i member is) ∙ map_push (with_product row) (take i vs) member)
 
-pub extended_fits : (at limit : ℕ) (row : Vector) (vs more : List Vector) → AreFitting at limit vs → more ≡ map (with_product row) vs → All IsNarrow more → AreFitting (at + 1) limit more
+pub extended_fits : (at limit : ℕ) (row : Vector) (vs more : List Vector) → AreFitting at limit vs →
+    more ≡ map (with_product row) vs → All IsNarrow more → AreFitting (at + 1) limit more
 extended_fits at limit row vs more h e narrow = record {
-  members = λ k d low. (All-get_or (λ z. length z ≡ at + 1) more k d low sizes, All-get_or IsNarrow more k d low narrow);
+  members = λ k d low. (
+    All-get_or (λ z. length z ≡ at + 1) more k d low sizes,
+    All-get_or IsNarrow more k d low narrow,
+  );
   short = omega (arith, h.short, ap length e, length-map vs (with_product row));
 }
   where
@@ -213,17 +247,14 @@ extended_fits at limit row vs more h e narrow = record {
     sizes =
         subst (All (λ z. length z ≡ at + 1)) (sym e)
         (All-map (λ z. length z ≡ at + 1) (with_product row) vs
-        (All-weaker (λ z. (length z ≡ at) × IsNarrow z) (λ z. length (with_product row z) ≡ at + 1) (λ z k. omega (arith, k.0, product_length row z)) vs h.members))
-
-narrow_unit : (t j : ℕ) → IsNarrow (unit_vector t j)
-narrow_unit zero j = All-nil (λ a. unsigned_abs a < 2 ^ 31)
-narrow_unit (suc t) zero = All-cons (λ a. unsigned_abs a < 2 ^ 31) (pos 1) (zeros t) (omega arith) (All-replicate (λ a. unsigned_abs a < 2 ^ 31) t (pos 0) (omega arith))
-narrow_unit (suc t) (suc j) = All-cons (λ a. unsigned_abs a < 2 ^ 31) (pos 0) (unit_vector t j) (omega arith) (narrow_unit t j)
+        (All-weaker (λ z. (length z ≡ at) × IsNarrow z) (λ z. length (with_product row z) ≡ at + 1)
+        (λ z k. omega (arith, k.0, product_length row z)) vs h.members))
 
 units_members : (t n : ℕ) → AreMembers t (first_units t n)
 units_members t zero = All-nil (λ z. (length z ≡ t) × IsNarrow z)
 units_members t (suc n) =
-    All-push (λ z. (length z ≡ t) × IsNarrow z) (first_units t n) (unit_vector t n) (units_members t n) (length-unit t n, narrow_unit t n)
+    All-push (λ z. (length z ≡ t) × IsNarrow z) (first_units t n) (unit_vector t n) (units_members t n)
+    (length-unit t n, narrow-unit t n)
 
 pub units_even : (t n : ℕ) (units : List Vector) (unit : Vector) → units ≡ first_units t n → unit ≡ unit_vector t n →
     All (λ v. length v ≡ length unit) units
@@ -242,7 +273,8 @@ units_completed t = record { sound = units_elements t; different = units_differ 
 pub exceeds_by_units : (m : Matrix) (limit : ℕ) → limit < m.cols → ExceedsBasis m limit
 exceeds_by_units m limit h =
     exceeds_first 0 limit m
-    (exceeds_by_many (without_rows m.cols) limit (first_units m.cols m.cols) (units_differ m.cols) (omega (arith, h, length-first_units m.cols m.cols)) (units_elements m.cols))
+    (exceeds_by_many (without_rows m.cols) limit (first_units m.cols m.cols) (units_differ m.cols)
+    (omega (arith, h, length-first_units m.cols m.cols)) (units_elements m.cols))
 
 -- ---- the sorted basis
 
@@ -277,7 +309,8 @@ sorted_basis m size limit vs sorted p s h done =
 
 -- ---- the rows so far
 
-pub row_narrow : (rows : List Vector) (n place : ℕ) (row : Vector) → All IsNarrow rows → place ≡ n → n < length rows → slice_get rows place ≡ Some row → IsNarrow row
+pub row_narrow : (rows : List Vector) (n place : ℕ) (row : Vector) → All IsNarrow rows → place ≡ n → n < length rows →
+    slice_get rows place ≡ Some row → IsNarrow row
 row_narrow rows n place row h e low f =
     let is : slice_get rows n ≡ Some row = ap (slice_get rows) (sym e) ∙ f in
     let same : get_or rows n row ≡ row = cc (slice_get-get_or rows n row low) in
@@ -290,15 +323,9 @@ pub first_all : (m : Matrix) (n : ℕ) → length m.rows ≤ n → first_rows n 
 first_all m n h = ap (λ rows. record { cols = m.cols; rows = rows }) (take_all n m.rows h)
 
 -- a fault for one row more is one for all rows
-pub first_fault : (m : Matrix) (n limit : ℕ) (row : Vector) (fault : BasisFault) → with_rows (first_rows n m) (row ∷ []) ≡ first_rows (n + 1) m →
+pub first_fault : (m : Matrix) (n limit : ℕ) (row : Vector) (fault : BasisFault) →
+    with_rows (first_rows n m) (row ∷ []) ≡ first_rows (n + 1) m →
     IsBasisFault (with_rows (first_rows n m) (row ∷ [])) limit fault → IsBasisFault m limit fault
 first_fault m n limit row fault e h =
     limit_only (ExceedsBasis (with_rows (first_rows n m) (row ∷ [])) limit) (ExceedsBasis m limit)
     (λ x. exceeds_first (n + 1) limit m (subst (λ a. ExceedsBasis a limit) e x)) fault h
-
--- rows made of narrow entries are narrow
-pub rows_narrow : (n cols : ℕ) (entries : Vector) → IsNarrow entries → All IsNarrow (rows_of n cols entries)
-rows_narrow zero cols entries h = All-nil IsNarrow
-rows_narrow (suc n) cols entries h =
-    All-cons IsNarrow (take cols entries) (rows_of n cols (drop cols entries)) (All-take (λ a. unsigned_abs a < 2 ^ 31) cols entries h)
-    (rows_narrow n cols (drop cols entries) (All-drop (λ a. unsigned_abs a < 2 ^ 31) cols entries h))

@@ -1,21 +1,26 @@
 -- Laws of the stages of a completion: what an added sum keeps, what it shows where a limit is passed, and
 -- what pairs that reduce leave covered.
-use Rattle.std.proofs.Common.{◌≡◌, ◌≢◌, ℕ, ◌<◌, ◌≤◌, true, false, List, [], ◌∷◌, ◌++◌, length, take, refl, ap, arith, sym, ◌∙◌, Contains, ◌⊎◌, inl, inr, subst, append_assoc, length-append, ℤ, ◌+ℤ◌, unsigned_abs, ◌^◌, slice_get, Some}
+use Rattle.std.proofs.Common.{◌≡◌, ◌≢◌, ℕ, ◌<◌, ◌≤◌, true, false, List, [], ◌∷◌, ◌++◌, length, take, refl, ap, arith}
+use Rattle.std.proofs.Common.{sym, ◌∙◌, Contains, ◌⊎◌, inl, inr, subst, append_assoc, length-append, ℤ, ◌+ℤ◌}
+use Rattle.std.proofs.Common.{unsigned_abs, ◌^◌, slice_get, Some}
 use Rattle.std.specs.List.{All, AllByRecursion}
 use Rattle.std.proofs.lemmas.Int.{ints}
 use Rattle.std.proofs.lemmas.List.{length_push, append-nil}
 use Rattle.std.proofs.lemmas.Option.{get_or_from_slice_get, slice_get_within}
-use Rattle.std.proofs.lemmas.List.Elements.{All-from_recursion, recursion_from_All, All-contains, All-get_or, All-push, Contains-get_or, Contains-append_left, Contains-push}
+use Rattle.std.proofs.lemmas.List.Elements.{All-from_recursion, recursion_from_All, All-contains, All-get_or, All-push}
+use Rattle.std.proofs.lemmas.List.Elements.{Contains-get_or, Contains-append_left, Contains-push}
 use Rattle.std.proofs.lemmas.List.Quantifiers.{all_pairs_push}
 use Rattle.lattice_theory.specs.Vectors.{Vector, is_zero, leads_positive, norm1, add, opposite}
 use Rattle.lattice_theory.specs.Matrices.{Matrix}
 use Rattle.lattice_theory.specs.Lattices.{InLattice, IsMinimal}
 use Rattle.lattice_theory.specs.BasisLimits.{IsNarrow, IsBasisElement, ExceedsBasis}
-use Rattle.lattice_laws.proofs.Conformal.{conforms_refl, length-opposite, opposite_nonzero, opposite-opposite, norm_agree, norm_some, nonzero_of_norm, norm-take, take-add}
+use Rattle.lattice_laws.proofs.Conformal.{conforms_refl, length-opposite, opposite_nonzero, opposite-opposite}
+use Rattle.lattice_laws.proofs.Conformal.{norm_agree, norm_some, nonzero_of_norm, norm-take, take-add}
 use Rattle.lattice_laws.proofs.Elements.{closed_add, closed_opposite, minimal-opposite}
 use Rattle.lattice_laws.proofs.Rising.{AreDifferent}
 use Rattle.lattice_laws.proofs.SlackBases.{IsSigned, IsReducible, Covers, exceeds_by_many}
-use Rattle.lattice_laws.proofs.Completion.{counts, counts_parts, CoversCut, CoversBelow, PairsReduce, completed, minimal_sum, cut_nonzero}
+use Rattle.lattice_laws.proofs.Completion.{counts, counts_parts, CoversCut, CoversBelow, PairsReduce, completed}
+use Rattle.lattice_laws.proofs.Completion.{minimal_sum, cut_nonzero}
 use Rattle.pottier.specs.Stages.{AreMembers, AreFitting, Grows, IsStage, IsDue, IsCompleted}
 
 -- ---- growing lists
@@ -34,7 +39,8 @@ grows_length us vs (xs, e) = omega (arith, ap length e, length-append us xs)
 
 signed_grows : (us vs : List Vector) (e : Vector) → Grows us vs → IsSigned us e → IsSigned vs e
 signed_grows us vs e (xs, f) (inl c) = inl (subst (λ ws. Contains ws e) (sym f) (Contains-append_left us xs e c))
-signed_grows us vs e (xs, f) (inr c) = inr (subst (λ ws. Contains ws (opposite e)) (sym f) (Contains-append_left us xs (opposite e) c))
+signed_grows us vs e (xs, f) (inr c) = inr (subst (λ ws. Contains ws (opposite e)) (sym f)
+    (Contains-append_left us xs (opposite e) c))
 
 pub reducible_grows : (us vs : List Vector) (z : Vector) → Grows us vs → IsReducible us z → IsReducible vs z
 reducible_grows us vs z g (e, s, b) = (e, signed_grows us vs e g s, b)
@@ -42,7 +48,8 @@ reducible_grows us vs z g (e, s, b) = (e, signed_grows us vs e g s, b)
 cut_grows : (m : Matrix) (at : ℕ) (us vs : List Vector) → Grows us vs → CoversCut m at us → CoversCut m at vs
 cut_grows m at us vs g h = λ y i n. let c = h y i n in (c.0, signed_grows us vs c.0 g c.1, c.2)
 
-pub below_grows : (m : Matrix) (at bound : ℕ) (us vs : List Vector) → Grows us vs → CoversBelow m at bound us → CoversBelow m at bound vs
+pub below_grows : (m : Matrix) (at bound : ℕ) (us vs : List Vector) → Grows us vs → CoversBelow m at bound us →
+    CoversBelow m at bound vs
 below_grows m at bound us vs g h = λ y i n low. reducible_grows us vs y g (h y i n low)
 
 -- ---- the members of a stage
@@ -60,13 +67,22 @@ module _ (m : Matrix) (at : ℕ) (vs : List Vector) (stage : IsStage m at vs) wh
       )
 
   -- the sum of a counting pair is an element that is not 0
-  pub sum_is : (p q : Vector) → IsSigned vs p → IsSigned vs q → counts at p q ≡ true → InLattice m (add p q) × (is_zero (add p q) ≡ false)
+  pub sum_is : (p q : Vector) → IsSigned vs p → IsSigned vs q → counts at p q ≡ true → InLattice m (add p q)
+      × (is_zero (add p q) ≡ false)
   sum_is p q s t h =
       let i = signed_is p s in
       let j = signed_is q t in
       let some : 0 < norm1 (take at p) = norm_some (take at p) (cut_nonzero m at stage.size stage.first p i.0 i.1) in
-      let norm = norm_agree (take at p) (take at q) (counts_parts at p q h).0 in
-      (closed_add m p q i.0 j.0, nonzero_of_norm (add p q) (omega (arith, some, norm, norm-take at (add p q), ap norm1 (take-add at p q))))
+      let norm = norm_agree (take at p) (take at q) (counts_parts at p q h).0 in (
+        closed_add m p q i.0 j.0,
+        nonzero_of_norm (add p q) (omega (
+          arith,
+          some,
+          norm,
+          norm-take at (add p q),
+          ap norm1 (take-add at p q),
+        )),
+      )
 
   -- ---- an added sum
 
@@ -76,7 +92,8 @@ module _ (m : Matrix) (at : ℕ) (vs : List Vector) (stage : IsStage m at vs) wh
     added_element = (turned either, leads)
       where
         minimal : IsMinimal m z
-        minimal = minimal_sum m at stage.size stage.first vs (norm1 (take at z)) z due.covers due.inside due.nonzero (omega arith) none
+        minimal = minimal_sum m at stage.size stage.first vs (norm1 (take at z)) z due.covers due.inside due.nonzero
+            (omega arith) none
 
         turned : (w ≡ z) ⊎ (w ≡ opposite z) → IsMinimal m w
         turned (inl e) = subst (IsMinimal m) (sym e) minimal
@@ -91,7 +108,8 @@ module _ (m : Matrix) (at : ℕ) (vs : List Vector) (stage : IsStage m at vs) wh
 
     added_different : AreDifferent (vs ++ w ∷ [])
     added_different =
-        all_pairs_push (λ u v. u ≢ v) vs w stage.different (λ k d low e. added_new (subst (Contains vs) e (Contains-get_or vs k d low)))
+        all_pairs_push (λ u v. u ≢ v) vs w stage.different (λ k d low e. added_new
+        (subst (Contains vs) e (Contains-get_or vs k d low)))
 
     pub added_stage : IsStage m at (vs ++ w ∷ [])
     added_stage = record {
@@ -104,7 +122,8 @@ module _ (m : Matrix) (at : ℕ) (vs : List Vector) (stage : IsStage m at vs) wh
 
     pub exceeds_by_added : (limit : ℕ) → limit ≤ length vs → ExceedsBasis m limit
     exceeds_by_added limit full =
-        exceeds_by_many m limit (vs ++ w ∷ []) added_different (omega (arith, length_push vs w)) (All-push (IsBasisElement m) vs w stage.sound added_element)
+        exceeds_by_many m limit (vs ++ w ∷ []) added_different (omega (arith, length_push vs w))
+        (All-push (IsBasisElement m) vs w stage.sound added_element)
 
     pub exceeds_by_wide : (limit : ℕ) → (IsNarrow w → ⊥) → ExceedsBasis m limit
     exceeds_by_wide limit wide = inr (w, added_element, wide)
@@ -130,7 +149,8 @@ member_at size vs i v h is =
 
 -- ---- one vector more
 
-pub fitting_push : (size limit : ℕ) (vs : List Vector) (w : Vector) → AreFitting size limit vs → length w ≡ size → IsNarrow w → length vs < limit → AreFitting size limit (vs ++ w ∷ [])
+pub fitting_push : (size limit : ℕ) (vs : List Vector) (w : Vector) → AreFitting size limit vs → length w ≡ size →
+    IsNarrow w → length vs < limit → AreFitting size limit (vs ++ w ∷ [])
 fitting_push size limit vs w h l narrow room = record {
   members = All-push (λ z. (length z ≡ size) × IsNarrow z) vs w h.members (l, narrow);
   short = omega (arith, length_push vs w);
@@ -154,9 +174,11 @@ not_reducible_same m at vs y z f stage due h r =
 pub sum_small : (p q : Vector) → IsNarrow p → IsNarrow q → All (λ a. unsigned_abs a < 2 ^ 62) (add p q)
 sum_small p q h k =
     All-from_recursion (λ a. unsigned_abs a < 2 ^ 62) (add p q)
-    (small p q (recursion_from_All (λ a. unsigned_abs a < 2 ^ 31) p h) (recursion_from_All (λ a. unsigned_abs a < 2 ^ 31) q k))
+    (small p q (recursion_from_All (λ a. unsigned_abs a < 2 ^ 31) p h)
+    (recursion_from_All (λ a. unsigned_abs a < 2 ^ 31) q k))
   where
-    small : (p q : Vector) → AllByRecursion (λ a. unsigned_abs a < 2 ^ 31) p → AllByRecursion (λ a. unsigned_abs a < 2 ^ 31) q → AllByRecursion (λ a. unsigned_abs a < 2 ^ 62) (add p q)
+    small : (p q : Vector) → AllByRecursion (λ a. unsigned_abs a < 2 ^ 31) p →
+        AllByRecursion (λ a. unsigned_abs a < 2 ^ 31) q → AllByRecursion (λ a. unsigned_abs a < 2 ^ 62) (add p q)
     small [] q h k = tt
     small (a ∷ p) [] h k = tt
     small (a ∷ p) (b ∷ q) h k = (entry a b h.0 k.0, small p q h.1 k.1)

@@ -41,7 +41,8 @@ pub record IsPairedWith (at : ℕ) (vs : List Vector) (second firsts : ℕ) (old
   pub order : IsHeap pair_order old → IsHeap pair_order new
   pub entries : All (IsPairOf at vs) old → All (IsPairOf at vs) new
   pub kept : (e : Pair) → Contains old e → Contains new e
-  pub waits : (i : ℕ) → i < firsts → pair_counts at (get_or vs i []) (get_or vs second []) ≡ true → Waits vs new (get_or vs i []) (get_or vs second [])
+  pub waits : (i : ℕ) → i < firsts → pair_counts at (get_or vs i []) (get_or vs second []) ≡ true →
+      Waits vs new (get_or vs i []) (get_or vs second [])
   pub few : length new ≤ length old + firsts
 
 -- the members from one place to another were paired with those before them

@@ -42,10 +42,6 @@ pub record IsDue (m : Matrix) (at : ℕ) (vs : List Vector) (z : Vector) : Type 
   pub nonzero : is_zero z ≡ false
   pub covers : CoversBelow m at (norm1 (take at z)) vs
 
--- the matrix of the first rows
-abbrev pub first_rows : ℕ → Matrix → Matrix
-first_rows n m = record { cols = m.cols; rows = take n m.rows }
-
 -- z with its product with the row as its last entry
 abbrev pub with_product : Vector → Vector → Vector
 with_product row z = z ++ dot row (take (length row) z) ∷ []

@@ -22,7 +22,8 @@ pub fn is_reducible(members: &Members, ranks: &[Rank], z: &[i64], at: usize) -> 
     requires same { All (λ v. length v ≡ length z.now) members.now }
     requires at { at ≤ length z.now }
     requires ranks { AreRanks at members.now ranks.now }
-    ensures { MatchBool result (IsReducible members.now z.now) ((m : Matrix) → IsStage m at members.now → IsDue m at members.now z.now → IsReducible members.now z.now → ⊥) }
+    ensures { MatchBool result (IsReducible members.now z.now) ((m : Matrix) → IsStage m at members.now →
+        IsDue m at members.now z.now → IsReducible members.now z.now → ⊥) }
 {
     let norm = norm1(&z[..at]);
     let most = norm / 2;
@@ -39,7 +40,8 @@ pub fn is_reducible(members: &Members, ranks: &[Rank], z: &[i64], at: usize) -> 
 fn has_below(members: &Members, ranks: &[Rank], z: &[i64]) -> bool
     requires same { All (λ v. length v ≡ length z.now) members.now }
     requires placed { All (IsPlaced members.now) ranks.now }
-    ensures { MatchBool result (IsReducible members.now z.now) (All (λ r. order.lies_below (order.ranked_in members.now r) z.now ≡ false) ranks.now) }
+    ensures { MatchBool result (IsReducible members.now z.now)
+        (All (λ r. order.lies_below (order.ranked_in members.now r) z.now ≡ false) ranks.now) }
 {
     let plain = signs_of(z);
     let turned = exchanged(plain);

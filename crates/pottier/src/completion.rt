@@ -5,7 +5,8 @@
 //! the norm of their sums before the new entry, and a sum is added where no member is below it. So each
 //! vector that is added is minimal, and no member is ever taken away.
 
-ghost use Rattle.std.specs.Prelude.{◌≡◌, ℕ, ◌+◌, ◌≤◌, ◌<◌, ◌^◌, ◌⊎◌, length, map, All, IfOk, IfErr, OnOk, true, false, unsigned_abs};
+ghost use Rattle.std.specs.Prelude.{◌≡◌, ℕ, ◌+◌, ◌≤◌, ◌<◌, ◌^◌, ◌⊎◌, length, map, All, IfOk, IfErr, OnOk, true, false};
+ghost use Rattle.std.specs.Prelude.{unsigned_abs};
 ghost use Rattle.lattice_theory.specs.Vectors as vector;
 ghost use Rattle.lattice_theory.specs.Matrices as matrices;
 ghost use Rattle.lattice_laws.proofs.SlackBases.{IsReducible};
@@ -77,8 +78,10 @@ fn add_sum(
     ensures grows { OnOk result (Grows members.old members.new) }
     ensures one { OnOk result (length members.new ≤ length members.old + 1) }
     ensures reducible { OnOk result (IsReducible members.new sum.items) }
-    ensures stage { (m : matrices.Matrix) → IsStage m at members.old → IsDue m at members.old sum.items → OnOk result (IsStage m at members.new) }
-    ensures refused { (m : matrices.Matrix) → IsStage m at members.old → IsDue m at members.old sum.items → IfErr result (IsBasisFault m limit) }
+    ensures stage { (m : matrices.Matrix) → IsStage m at members.old → IsDue m at members.old sum.items →
+        OnOk result (IsStage m at members.new) }
+    ensures refused { (m : matrices.Matrix) → IsStage m at members.old → IsDue m at members.old sum.items →
+        IfErr result (IsBasisFault m limit) }
 {
     if is_reducible(members, ranks, &sum, at) {
         return Ok(());

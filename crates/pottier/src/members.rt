@@ -40,7 +40,7 @@ impl Members {
     }
 
     /// How many members there are.
-    #[tactic(auto, using(mat_files::proofs::MatrixLaws::length_rows_of))]
+    #[tactic(auto, using(lattice_laws::proofs::VectorLists::length_rows_of))]
     pub fn len(&self) -> usize
         ensures { result ≡ length self.now }
     {
@@ -48,7 +48,7 @@ impl Members {
     }
 
     /// The member at a place.
-    #[tactic(auto, using(mat_files::proofs::MatrixLaws::length_rows_of))]
+    #[tactic(auto, using(lattice_laws::proofs::VectorLists::length_rows_of))]
     pub fn get(&self, place: usize) -> &[i64]
         requires { place < length self.now }
         ensures member { slice_get self.now place ≡ Some result.now }
@@ -71,7 +71,7 @@ impl Members {
     }
 
     /// The same members in lexicographic order.
-    #[tactic(auto, using(mat_files::proofs::MatrixLaws::length_rows_of))]
+    #[tactic(auto, using(lattice_laws::proofs::VectorLists::length_rows_of))]
     pub fn sorted(&self, alloc: Global) -> Result<Members, AllocError>
         ensures permutation { IfOk result (IsPermutation self.now) }
         ensures sorted { IfOk result (IsSorted lex_cmp) }

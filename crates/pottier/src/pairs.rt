@@ -3,7 +3,7 @@
 //! The second vector of a pair is taken with the sign with which its new entry clashes with that of the first.
 //! With the other sign the two new entries agree, so a pair counts with one sign at most.
 
-ghost use Rattle.std.specs.Prelude.{◌≡◌, ◌≤◌, ◌<◌, ◌^◌, ◌+◌, ◌+ℤ◌, ◌-ℤ◌, IfOk, length, All, MatchBool, unsigned_abs, true};
+ghost use Rattle.std.specs.Prelude.{◌≡◌, ◌≤◌, ◌<◌, ◌^◌, ◌+◌, IfOk, length, All, MatchBool, unsigned_abs, true};
 ghost use Rattle.lattice_theory.specs.Vectors as vector;
 ghost use Rattle.lattice_theory.specs.BasisLimits.{IsNarrow};
 ghost use Rattle.lattice_laws.proofs.Signs as signs;
@@ -13,6 +13,7 @@ ghost use Rattle.pottier.specs.Partners.{pair_counts, sum_of_pair, norm_of_sum};
 
 use int_vectors::norm1;
 use std::alloc::{AllocError, Global};
+use vector_sums::{difference, sum};
 
 /// Whether the pair counts: its vectors agree before the last entry, and clash there.
 pub fn counts(p: &[i64], q: &[i64], at: usize) -> bool
@@ -92,52 +93,6 @@ pub fn pair_sum(alloc: Global, p: &[i64], q: &[i64], at: usize) -> Result<Vec<i6
     } else {
         sum(alloc, p, q)
     }
-}
-
-/// The sum of two narrow vectors.
-fn sum(alloc: Global, p: &[i64], q: &[i64]) -> Result<Vec<i64>, AllocError>
-    requires same { length p.now ≡ length q.now }
-    requires narrow { IsNarrow p.now }
-    requires narrower { IsNarrow q.now }
-    ensures { IfOk result (λ z. z.items ≡ vector.add p.now q.now) }
-{
-    let mut made = Vec::with_capacity(alloc, p.len())?;
-    for (x, y) in p.iter().zip(q) {
-        made.push(entry_sum(*x, *y))?;
-    }
-    Ok(made)
-}
-
-/// The difference of two narrow vectors.
-fn difference(alloc: Global, p: &[i64], q: &[i64]) -> Result<Vec<i64>, AllocError>
-    requires same { length p.now ≡ length q.now }
-    requires narrow { IsNarrow p.now }
-    requires narrower { IsNarrow q.now }
-    ensures { IfOk result (λ z. z.items ≡ vector.sub p.now q.now) }
-{
-    let mut made = Vec::with_capacity(alloc, p.len())?;
-    for (x, y) in p.iter().zip(q) {
-        made.push(entry_difference(*x, *y))?;
-    }
-    Ok(made)
-}
-
-/// The sum of two narrow entries.
-fn entry_sum(x: i64, y: i64) -> i64
-    requires first { unsigned_abs x < 2 ^ 31 }
-    requires second { unsigned_abs y < 2 ^ 31 }
-    ensures { result ≡ x +ℤ y }
-{
-    x + y
-}
-
-/// The difference of two narrow entries.
-fn entry_difference(x: i64, y: i64) -> i64
-    requires first { unsigned_abs x < 2 ^ 31 }
-    requires second { unsigned_abs y < 2 ^ 31 }
-    ensures { result ≡ x -ℤ y }
-{
-    x - y
 }
 
 /// Turns all signs.

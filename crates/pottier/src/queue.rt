@@ -75,7 +75,8 @@ pub fn pair_up(
     requires few { at ≤ 2016 }
     requires members { AreMembers (at + 1) members.now }
     requires from { from ≤ length members.now }
-    ensures { OnOk result (IsPairedUp at members.now from (length members.now) (heap_items pairs.old) (heap_items pairs.new)) }
+    ensures { OnOk result (IsPairedUp at members.now from (length members.now) (heap_items pairs.old)
+        (heap_items pairs.new)) }
 {
     for second in from..members.len() {
         add_pairs(pairs, members, second, at)?;

@@ -39,7 +39,8 @@ pub fn add_rank(
     at: usize,
 ) -> Result<(), AllocError>
     requires { at ≤ length member.now }
-    ensures { (vs : List vector.Vector) → AreRanks at vs ranks.old.items → place ≡ length vs → OnOk result (AreRanks at (vs ++ member.now ∷ []) ranks.new.items) }
+    ensures { (vs : List vector.Vector) → AreRanks at vs ranks.old.items → place ≡ length vs →
+        OnOk result (AreRanks at (vs ++ member.now ∷ []) ranks.new.items) }
 {
     let norm = norm1(&member[..at]);
     let behind = ranks.partition_point(|r| r.norm <= norm);

@@ -77,8 +77,10 @@ fn with_row(
     requires narrow { IsNarrow row.now }
     requires fitting { AreFitting at limit members.now }
     ensures fitting { IfOk result (λ more. AreFitting (at + 1) limit more) }
-    ensures completed { (m : matrices.Matrix) → m.cols ≡ length row.now → width m ≡ at → IsCompleted m members.now → IfOk result (λ more. IsCompleted (with_rows m (row.now ∷ [])) more) }
-    ensures refused { (m : matrices.Matrix) → m.cols ≡ length row.now → width m ≡ at → IsCompleted m members.now → IfErr result (IsBasisFault (with_rows m (row.now ∷ [])) limit) }
+    ensures completed { (m : matrices.Matrix) → m.cols ≡ length row.now → width m ≡ at → IsCompleted m members.now →
+        IfOk result (λ more. IsCompleted (with_rows m (row.now ∷ [])) more) }
+    ensures refused { (m : matrices.Matrix) → m.cols ≡ length row.now → width m ≡ at → IsCompleted m members.now →
+        IfErr result (IsBasisFault (with_rows m (row.now ∷ [])) limit) }
 {
     let mut members = extended(alloc, members, row)?;
     complete(alloc, &mut members, at, limit)?;
@@ -92,7 +94,8 @@ fn extended(alloc: Global, members: &Members, row: &[i64]) -> Result<Members, Ba
     requires members { All (λ z. (length row.now ≤ length z) × IsNarrow z) members.now }
     ensures products { IfOk result (λ more. more ≡ map (with_product row.now) members.now) }
     ensures narrow { IfOk result (λ more. All IsNarrow more) }
-    ensures refused { IfErr result (LimitOnly ((z : vector.Vector) × Contains members.now z × (IsNarrow (with_product row.now z) → ⊥))) }
+    ensures refused { IfErr result (LimitOnly ((z : vector.Vector) × Contains members.now z
+        × (IsNarrow (with_product row.now z) → ⊥))) }
 {
     let mut extended = Members::new(alloc);
     for place in 0..members.len() {

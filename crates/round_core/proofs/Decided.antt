@@ -1,5 +1,6 @@
 -- What the tests of the definitions say.
-use Rattle.std.proofs.Common.{◌≡◌, ◌≢◌, ℕ, ◌<◌, ◌≤◌, ◌⊎◌, Bool, true, false, cond, eqb, ltb, not, ◌&&◌, ◌||◌, Option, Some, None, IsTrue, is_some, is_none, refl, ap, sym, ◌∙◌, arith, inl, inr, true≢false}
+use Rattle.std.proofs.Common.{◌≡◌, ◌≢◌, ℕ, ◌<◌, ◌≤◌, ◌⊎◌, Bool, true, false, cond, eqb, ltb, not, ◌&&◌, ◌||◌, Option}
+use Rattle.std.proofs.Common.{Some, None, IsTrue, is_some, is_none, refl, ap, sym, ◌∙◌, arith, inl, inr, true≢false}
 use Rattle.std.proofs.lemmas.Bool.Decides.{nat_tests}
 use Rattle.round_core.specs.declared.parts.Fate.{Fate}
 use Rattle.round_core.specs.declared.parts.Fate.TheVariants.{Open, HalfWritten, Written, Offered, Beaten}

@@ -1,23 +1,34 @@
 -- Each allowed event keeps a round sound.
-use Rattle.std.proofs.Common.{◌≡◌, ◌≢◌, ℕ, suc, ◌<◌, ◌≤◌, ◌⊎◌, Bool, true, false, cond, eqb, ltb, not, ◌||◌, length, map, set, Option, Some, None, IsTrue, is_some, is_none, length-set, refl, ap, sym, ◌∙◌, subst, arith, inl, inr, ⊎_elim, true≢false}
+use Rattle.std.proofs.Common.{◌≡◌, ◌≢◌, ℕ, suc, ◌<◌, ◌≤◌, ◌⊎◌, Bool, true, false, cond, eqb, ltb, not, ◌||◌, length}
+use Rattle.std.proofs.Common.{map, set, Option, Some, None, IsTrue, is_some, is_none, length-set, refl, ap, sym, ◌∙◌}
+use Rattle.std.proofs.Common.{subst, arith, inl, inr, ⊎_elim, true≢false}
 use Rattle.std.proofs.lemmas.List.{length-map}
-use Rattle.std.proofs.lemmas.Option.{same_Some}
+use Rattle.std.proofs.lemmas.Option.{same_Some, none-some}
 use Rattle.round_core.specs.declared.events.Event.{Event}
-use Rattle.round_core.specs.declared.events.Event.TheVariants.{Claim, StoreHigh, StoreLow, LoadBest, LoadHigh, LoadLow, Exchange, SplitSeat, JoinSeat}
+use Rattle.round_core.specs.declared.events.Event.TheVariants.{Claim, StoreHigh, StoreLow, LoadBest, LoadHigh, LoadLow}
+use Rattle.round_core.specs.declared.events.Event.TheVariants.{Exchange, SplitSeat, JoinSeat}
 use Rattle.round_core.specs.declared.parts.Fate.{Fate}
 use Rattle.round_core.specs.declared.parts.Fate.TheVariants.{Open, HalfWritten, Written, Offered, Beaten}
 use Rattle.round_core.specs.declared.parts.Stand.TheVariants.{Absent, Working, Finished, Joined}
 use Rattle.round_core.specs.declared.parts.Length.{Length}
 use Rattle.round_core.specs.declared.parts.Worker.{Worker}
-use Rattle.round_core.specs.Rounds.{Round, length_at, gain_at, owner_at, fate_at, worker_at, stand_at, seen_at, index_beats, high_half, low_half}
-use Rattle.round_core.specs.Allowed.{is_fate, is_live, is_working, is_absent, owned_by, owns, has_fate, may_settle, is_allowed}
-use Rattle.round_core.specs.Steps.{with_length, with_worker, with_fate, seeing_best, is_beaten, settled, settled_option, storing_high, storing_low, offering, better, handed_over, joined_stand, joining, after, step}
+use Rattle.round_core.specs.Rounds.{Round, length_at, gain_at, owner_at, fate_at, worker_at, stand_at, seen_at}
+use Rattle.round_core.specs.Rounds.{index_beats, high_half, low_half}
+use Rattle.round_core.specs.Allowed.{is_fate, is_live, is_working, is_absent, owned_by, owns, has_fate, may_settle}
+use Rattle.round_core.specs.Allowed.{is_allowed}
+use Rattle.round_core.specs.Steps.{with_length, with_worker, with_fate, seeing_best, is_beaten, settled, settled_option}
+use Rattle.round_core.specs.Steps.{storing_high, storing_low, offering, better, handed_over, joined_stand, joining}
+use Rattle.round_core.specs.Steps.{after, step}
 use Rattle.round_core.specs.Sound.{NamesOffered, HoldsHigh, HoldsGain, IsClaimed, IsSound}
-use Rattle.round_core.proofs.Decided.{by_test, both_true, one_true, three_true, four_true, equal_of, apart_of, less_of, not_less_of, equal_itself, some_is, none_is, owner_is, working_is, absent_is, fate_is, fates_differ}
-use Rattle.round_core.proofs.Stands.{live_working, working_finished, joined_not_finished, ended_working, ended_absent, ended_once, joined_live, joined_ended, joined_finished}
+use Rattle.round_core.proofs.Decided.{by_test, both_true, one_true, three_true, four_true, equal_of, apart_of, less_of}
+use Rattle.round_core.proofs.Decided.{not_less_of, equal_itself, some_is, none_is, owner_is, working_is, absent_is}
+use Rattle.round_core.proofs.Decided.{fate_is, fates_differ}
+use Rattle.round_core.proofs.Stands.{live_working, working_finished, joined_not_finished, ended_working, ended_absent}
+use Rattle.round_core.proofs.Stands.{ended_once, joined_live, joined_ended, joined_finished}
 use Rattle.round_core.proofs.Order.{beats_itself, beats_neither, beats_through}
 use Rattle.round_core.proofs.Places.{same_or_else, length_here, length_else, workers_count, handed_at}
-use Rattle.round_core.proofs.Kept.{unowned, owned_room, owner_live, live_room, mark_keeps, mark_names, worker_keeps, owners_keep}
+use Rattle.round_core.proofs.Kept.{unowned, owned_room, owner_live, live_room, mark_keeps, mark_names, worker_keeps}
+use Rattle.round_core.proofs.Kept.{owners_keep}
 
 -- ---- a claim
 
@@ -253,9 +264,6 @@ event_keeps r (JoinSeat w from) h may =
 
 pub step_keeps : (r next : Round) (e : Event) → IsSound r → step r e ≡ Some next → IsSound next
 step_keeps r next e h = by (is_allowed r e) refl where
-  none_some : (a : Round) → None ≡ Some a → ⊥
-  none_some a e = cc
-
   by : (b : Bool) → is_allowed r e ≡ b → cond b (Some (after r e)) None ≡ Some next → IsSound next
   by true may is = subst IsSound (same_Some (after r e) next is) (event_keeps r e h may)
-  by false may is = absurd (none_some next is)
+  by false may is = absurd (none-some next is)

@@ -1,14 +1,17 @@
 -- What allowed events reach from the beginning of a round, and what its end shows.
-use Rattle.std.proofs.Common.{◌≡◌, ◌≢◌, ℕ, zero, suc, ◌<◌, ◌≤◌, ◌⊎◌, Bool, false, ◌||◌, List, [], ◌∷◌, length, replicate, get_or, Option, Some, None, IsTrue, get_or-set_same, get_or-set_other, refl, sym, ◌∙◌, subst, arith, inl, inr, ⊎_elim, true≢false}
+use Rattle.std.proofs.Common.{◌≡◌, ◌≢◌, ℕ, zero, suc, ◌<◌, ◌≤◌, ◌⊎◌, Bool, false, ◌||◌, List, [], ◌∷◌, length}
+use Rattle.std.proofs.Common.{replicate, get_or, Option, Some, None, IsTrue, get_or-set_same, get_or-set_other, refl}
+use Rattle.std.proofs.Common.{sym, ◌∙◌, subst, arith, inl, inr, ⊎_elim, true≢false}
 use Rattle.std.proofs.lemmas.List.{length-replicate}
-use Rattle.std.proofs.lemmas.Option.{same_Some}
+use Rattle.std.proofs.lemmas.Option.{same_Some, none-some}
 use Rattle.std.specs.List.{list_all}
 use Rattle.round_core.specs.declared.events.Event.{Event}
 use Rattle.round_core.specs.declared.parts.Fate.TheVariants.{Open, Offered, Beaten}
 use Rattle.round_core.specs.declared.parts.Stand.TheVariants.{Working, Finished}
 use Rattle.round_core.specs.declared.parts.Length.{Length}
 use Rattle.round_core.specs.declared.parts.Worker.{Worker}
-use Rattle.round_core.specs.Rounds.{Round, unclaimed, no_worker, length_at, fate_at, worker_at, index_beats, first_round}
+use Rattle.round_core.specs.Rounds.{Round, unclaimed, no_worker, length_at, fate_at, worker_at, index_beats}
+use Rattle.round_core.specs.Rounds.{first_round}
 use Rattle.round_core.specs.Allowed.{is_fate}
 use Rattle.round_core.specs.Steps.{step, steps, is_settled, best_of}
 use Rattle.round_core.specs.Sound.{NamesOffered, HoldsHigh, HoldsGain, IsSound, IsBestLength}
@@ -71,12 +74,9 @@ module _ (gains : List (Option ℕ)) (workers : ℕ) (some : 1 ≤ workers) wher
 pub steps_keep : (events : List Event) (r end : Round) → IsSound r → steps r events ≡ Some end → IsSound end
 steps_keep [] r end h e = subst IsSound (same_Some r end e) h
 steps_keep (e ∷ es) r end h is = by (λ next n k. steps_keep es next end n k) (step r e) refl is where
-  none_some : (a : Round) → None ≡ Some a → ⊥
-  none_some a e = cc
-
   by : ((next : Round) → IsSound next → steps next es ≡ Some end → IsSound end)
       → (o : Option Round) → step r e ≡ o → elim o [ None ↦ None | Some next ↦ steps next es ] ≡ Some end → IsSound end
-  by rest None was is = absurd (none_some end is)
+  by rest None was is = absurd (none-some end is)
   by rest (Some next) was is = rest next (step_keeps r next e h was) is
 
 -- ---- the end
@@ -105,8 +105,8 @@ settled_best r h done = by r.best refl where
   none_beaten : r.best ≡ 0 → (k : ℕ) → IsTrue (index_beats r r.best (suc k)) → ⊥
   none_beaten z k e = true≢false (sym (subst (λ i. IsTrue (index_beats r i (suc k))) z e))
 
-  none_some : (g : ℕ) → None ≡ Some g → ⊥
-  none_some g e = cc
+  none-some : (g : ℕ) → None ≡ Some g → ⊥
+  none-some g e = cc
 
   over : (k : ℕ) → r.best ≡ suc k → (j : ℕ) → j < length r.lengths → j ≢ k → IsTrue (index_beats r (suc k) (suc j))
   over k is j room n =
@@ -127,7 +127,7 @@ settled_best r h done = by r.best refl where
   by (suc k) is =
       let offered : fate_at r k ≡ Offered = subst (NamesOffered r) is h.best_offered in
       let mine = offered_gain r h k offered in
-      (offered_room r k offered, λ e. none_some mine.0 (sym e ∙ mine.1), over k is)
+      (offered_room r k offered, λ e. none-some mine.0 (sym e ∙ mine.1), over k is)
 
 pub reached : (gains : List (Option ℕ)) (workers : ℕ) (events : List Event) (r : Round) → 1 ≤ workers
     → steps (first_round gains workers) events ≡ Some r

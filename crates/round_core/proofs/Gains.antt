@@ -1,16 +1,19 @@
 -- Events keep the gains of all lengths, and a settled round names the best length by them.
-use Rattle.std.proofs.Common.{◌≡◌, ℕ, zero, suc, ◌<◌, ◌≤◌, Bool, true, false, cond, List, [], ◌∷◌, length, map, get_or, set, Option, Some, None, slice_get, IsTrue, option_map, refl, ap, sym, ◌∙◌, subst, arith}
+use Rattle.std.proofs.Common.{◌≡◌, ℕ, zero, suc, ◌<◌, ◌≤◌, Bool, true, false, cond, List, [], ◌∷◌, length, map, get_or}
+use Rattle.std.proofs.Common.{set, Option, Some, None, slice_get, IsTrue, option_map, refl, ap, sym, ◌∙◌, subst, arith}
 use Rattle.std.proofs.lemmas.List.{length-map}
 use Rattle.std.proofs.lemmas.Option.{same_Some, slice_get_within, slice_get-get_or, get_or_from_slice_get}
 use Rattle.run_theory.specs.declared.Key.{Key}
 use Rattle.run_theory.specs.Keys.{beats}
 use Rattle.run_theory.specs.Bests.{IsBestByGains}
 use Rattle.round_core.specs.declared.events.Event.{Event}
-use Rattle.round_core.specs.declared.events.Event.TheVariants.{Claim, StoreHigh, StoreLow, LoadBest, LoadHigh, LoadLow, Exchange, SplitSeat, JoinSeat}
+use Rattle.round_core.specs.declared.events.Event.TheVariants.{Claim, StoreHigh, StoreLow, LoadBest, LoadHigh, LoadLow}
+use Rattle.round_core.specs.declared.events.Event.TheVariants.{Exchange, SplitSeat, JoinSeat}
 use Rattle.round_core.specs.declared.parts.Length.{Length}
 use Rattle.round_core.specs.Rounds.{Round, unclaimed, gain_at, outranks, index_beats, gains_of, first_round}
 use Rattle.round_core.specs.Allowed.{is_allowed}
-use Rattle.round_core.specs.Steps.{with_length, handed_over, is_beaten, settled, seeing_best, offering, after, step, steps, is_settled, best_of}
+use Rattle.round_core.specs.Steps.{with_length, handed_over, is_beaten, settled, seeing_best, offering, after, step}
+use Rattle.round_core.specs.Steps.{steps, is_settled, best_of}
 use Rattle.round_core.specs.Sound.{IsBestLength}
 use Rattle.round_core.proofs.Places.{get_map}
 use Rattle.round_core.proofs.Ends.{reached}

@@ -1,20 +1,20 @@
 -- What keeps a round sound: another fate of one length, another stand or sight of one worker, other owners.
-use Rattle.std.proofs.Common.{◌≡◌, ◌≢◌, ℕ, zero, suc, ◌+◌, ◌<◌, ◌≤◌, ◌⊎◌, false, List, length, Some, None, IsTrue, sum_by, refl, ap, sym, ◌∙◌, subst, arith, inl, inr, ⊎_elim, true≢false}
-use Rattle.std.proofs.lemmas.Option.{same_Some}
+use Rattle.std.proofs.Common.{◌≡◌, ◌≢◌, ℕ, zero, suc, ◌+◌, ◌<◌, ◌≤◌, ◌⊎◌, false, List, length, Some, None, IsTrue}
+use Rattle.std.proofs.Common.{sum_by, refl, ap, sym, ◌∙◌, subst, arith, inl, inr, ⊎_elim, true≢false}
+use Rattle.std.proofs.lemmas.Option.{same_Some, none-some}
 use Rattle.round_core.specs.declared.parts.Fate.TheVariants.{Open, Offered, Beaten}
 use Rattle.round_core.specs.declared.parts.Stand.TheVariants.{Finished}
 use Rattle.round_core.specs.declared.parts.Length.{Length}
 use Rattle.round_core.specs.declared.parts.Worker.{Worker}
-use Rattle.round_core.specs.Rounds.{Round, length_at, gain_at, owner_at, fate_at, worker_at, stand_at, seen_at, index_beats}
+use Rattle.round_core.specs.Rounds.{Round, length_at, gain_at, owner_at, fate_at, worker_at, stand_at, seen_at}
+use Rattle.round_core.specs.Rounds.{index_beats}
 use Rattle.round_core.specs.Allowed.{is_live}
 use Rattle.round_core.specs.Steps.{with_length, with_worker}
 use Rattle.round_core.specs.Sound.{NamesOffered, HoldsGain, IsClaimed, ended, IsSound}
 use Rattle.round_core.proofs.Decided.{less_or_not}
 use Rattle.round_core.proofs.Order.{beats_same}
-use Rattle.round_core.proofs.Places.{same_or_else, length_here, length_else, worker_here, worker_else, lengths_count, ended_count, no_length_past, no_worker_past}
-
-none_some : (w : ℕ) → None ≡ Some w → ⊥
-none_some w e = cc
+use Rattle.round_core.proofs.Places.{same_or_else, length_here, length_else, worker_here, worker_else, lengths_count}
+use Rattle.round_core.proofs.Places.{ended_count, no_length_past, no_worker_past}
 
 open_offered : Open ≡ Offered → ⊥
 open_offered e = cc
@@ -22,7 +22,7 @@ open_offered e = cc
 -- a length that has an owner is one of the round's
 pub owned_room : (r : Round) (k w : ℕ) → owner_at r k ≡ Some w → k < length r.lengths
 owned_room r k w e = ⊎_elim (λ p. p)
-    (λ p. absurd (none_some w (ap (λ (l : Length). l.owner) (sym (no_length_past r k p)) ∙ e)))
+    (λ p. absurd (none-some w (ap (λ (l : Length). l.owner) (sym (no_length_past r k p)) ∙ e)))
     (less_or_not k (length r.lengths))
 
 pub offered_room : (r : Round) (k : ℕ) → fate_at r k ≡ Offered → k < length r.lengths
@@ -39,7 +39,7 @@ live_room r w e = ⊎_elim (λ p. p)
 -- the length was claimed, by a live worker
 pub owned_claimed : (r : Round) (k w : ℕ) → IsSound r → owner_at r k ≡ Some w → k < r.claims
 owned_claimed r k w h e = ⊎_elim (λ p. p)
-    (λ p. absurd (none_some w (sym ((h.unclaimed k p).0) ∙ e)))
+    (λ p. absurd (none-some w (sym ((h.unclaimed k p).0) ∙ e)))
     (less_or_not k r.claims)
 
 pub owner_live : (r : Round) (k w : ℕ) → IsSound r → owner_at r k ≡ Some w → IsTrue (is_live (stand_at r w))

@@ -1,7 +1,8 @@
 -- The definitions at values worked by hand.
 use Rattle.std.proofs.Common.{lit≤, ◌≡◌, true, false, List, [], ◌∷◌, Some, None, refl}
 use Rattle.round_core.specs.declared.events.Event.{Event}
-use Rattle.round_core.specs.declared.events.Event.TheVariants.{Claim, StoreHigh, StoreLow, LoadBest, LoadHigh, LoadLow, Exchange, SplitSeat, JoinSeat}
+use Rattle.round_core.specs.declared.events.Event.TheVariants.{Claim, StoreHigh, StoreLow, LoadBest, LoadHigh, LoadLow}
+use Rattle.round_core.specs.declared.events.Event.TheVariants.{Exchange, SplitSeat, JoinSeat}
 use Rattle.round_core.specs.declared.parts.Fate.TheVariants.{Offered, Beaten}
 use Rattle.round_core.specs.declared.parts.Stand.TheVariants.{Absent, Working, Finished, Joined}
 use Rattle.round_core.specs.Rounds.{Round, first_round, unclaimed, index_beats, high_half, low_half}

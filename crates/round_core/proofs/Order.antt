@@ -1,5 +1,6 @@
 -- Which index beats which: a strict order.
-use Rattle.std.proofs.Common.{◌≡◌, ◌≢◌, ℕ, zero, suc, Bool, true, false, eqb, ltb, ◌&&◌, ◌||◌, Option, Some, None, IsTrue, option_map, refl, ap, sym, ◌∙◌, arith, true≢false}
+use Rattle.std.proofs.Common.{◌≡◌, ◌≢◌, ℕ, zero, suc, Bool, true, false, eqb, ltb, ◌&&◌, ◌||◌, Option, Some, None}
+use Rattle.std.proofs.Common.{IsTrue, option_map, refl, ap, sym, ◌∙◌, arith, true≢false}
 use Rattle.std.proofs.lemmas.Bool.Decides.{nat_tests}
 use Rattle.run_theory.specs.declared.Key.{Key}
 use Rattle.round_core.specs.Rounds.{Round, gain_at, key_at, outranks, index_beats}

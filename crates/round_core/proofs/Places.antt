@@ -1,5 +1,6 @@
 -- Lengths and workers of a round where one of them is another.
-use Rattle.std.proofs.Common.{◌≡◌, ◌≢◌, ℕ, zero, suc, ◌+◌, ◌<◌, ◌≤◌, ◌⊎◌, List, [], ◌∷◌, length, map, set, get_or, None, refl, ap, sym, arith, inl, inr, get_or-set_same, get_or-set_other, length-set, sum_by}
+use Rattle.std.proofs.Common.{◌≡◌, ◌≢◌, ℕ, zero, suc, ◌+◌, ◌<◌, ◌≤◌, ◌⊎◌, List, [], ◌∷◌, length, map, set, get_or, None}
+use Rattle.std.proofs.Common.{refl, ap, sym, arith, inl, inr, get_or-set_same, get_or-set_other, length-set, sum_by}
 use Rattle.std.proofs.lemmas.List.Sums.{sum_by-set}
 use mathlib.Core.Logic.{dite}
 use native.Mathlib.Decide.{ℕ_discrete}

@@ -1,11 +1,13 @@
 -- What every round keeps that is reached by allowed events, and what its end shows.
-use Rattle.std.specs.Prelude.{◌≡◌, ◌≢◌, ℕ, zero, suc, ◌+◌, ◌<◌, ◌≤◌, ◌⊎◌, false, length, Option, Some, None, IsTrue, sum_by}
+use Rattle.std.specs.Prelude.{◌≡◌, ◌≢◌, ℕ, zero, suc, ◌+◌, ◌<◌, ◌≤◌, ◌⊎◌, false, length, Option, Some, None, IsTrue}
+use Rattle.std.specs.Prelude.{sum_by}
 use Rattle.round_core.specs.declared.parts.Fate.{Fate}
 use Rattle.round_core.specs.declared.parts.Fate.TheVariants.{Open, HalfWritten, Written, Offered, Beaten}
 use Rattle.round_core.specs.declared.parts.Stand.TheVariants.{Absent, Working, Finished, Joined}
 use Rattle.round_core.specs.declared.parts.Length.{Length}
 use Rattle.round_core.specs.declared.parts.Worker.{Worker}
-use Rattle.round_core.specs.Rounds.{Round, length_at, gain_at, owner_at, fate_at, stand_at, seen_at, index_beats, high_half, low_half}
+use Rattle.round_core.specs.Rounds.{Round, length_at, gain_at, owner_at, fate_at, stand_at, seen_at, index_beats}
+use Rattle.round_core.specs.Rounds.{high_half, low_half}
 use Rattle.round_core.specs.Allowed.{is_live}
 
 -- none, or above 0

@@ -1,15 +1,18 @@
 -- What an event does to a round, and where events lead.
-use Rattle.std.specs.Prelude.{ℕ, zero, suc, Bool, ◌||◌, nat_eq, nat_lt, cond, List, [], ◌∷◌, map, length, Option, Some, None, slice_set, is_none}
+use Rattle.std.specs.Prelude.{ℕ, zero, suc, Bool, ◌||◌, nat_eq, nat_lt, cond, List, [], ◌∷◌, map, length, Option, Some}
+use Rattle.std.specs.Prelude.{None, slice_set, is_none}
 use Rattle.std.specs.List.{list_all}
 use Rattle.round_core.specs.declared.events.Event.{Event}
-use Rattle.round_core.specs.declared.events.Event.TheVariants.{Claim, StoreHigh, StoreLow, LoadBest, LoadHigh, LoadLow, Exchange, SplitSeat, JoinSeat}
+use Rattle.round_core.specs.declared.events.Event.TheVariants.{Claim, StoreHigh, StoreLow, LoadBest, LoadHigh, LoadLow}
+use Rattle.round_core.specs.declared.events.Event.TheVariants.{Exchange, SplitSeat, JoinSeat}
 use Rattle.round_core.specs.declared.parts.Fate.{Fate}
 use Rattle.round_core.specs.declared.parts.Fate.TheVariants.{HalfWritten, Written, Offered, Beaten}
 use Rattle.round_core.specs.declared.parts.Stand.{Stand}
 use Rattle.round_core.specs.declared.parts.Stand.TheVariants.{Working, Finished, Joined}
 use Rattle.round_core.specs.declared.parts.Length.{Length}
 use Rattle.round_core.specs.declared.parts.Worker.{Worker}
-use Rattle.round_core.specs.Rounds.{Round, length_at, gain_at, worker_at, stand_at, seen_at, index_beats, high_half, low_half}
+use Rattle.round_core.specs.Rounds.{Round, length_at, gain_at, worker_at, stand_at, seen_at, index_beats, high_half}
+use Rattle.round_core.specs.Rounds.{low_half}
 use Rattle.round_core.specs.Allowed.{is_fate, owned_by, is_allowed}
 
 -- another length in the place of length k

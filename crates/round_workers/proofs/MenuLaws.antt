@@ -7,10 +7,10 @@ use Rattle.std.proofs.lemmas.Bool.{cases_order}
 use Rattle.std.proofs.Math.ListN.{set}
 use Rattle.fold_theory.specs.Programs.{Bricks}
 use Rattle.run_theory.specs.Folds.{FoldValue}
+use Rattle.lattice_laws.proofs.Places.{same_value, slice_get-push}
 use Rattle.sieve_laws.specs.Sieve.{Menu}
-use Rattle.sieve_laws.proofs.Cells.{slice_get-set_same, slice_get-set_other, at_same}
+use Rattle.sieve_laws.proofs.Cells.{slice_get-set_same, slice_get-set_other}
 use Rattle.brick_dp.specs.Menus.{AreMenus}
-use Rattle.brick_dp.proofs.ChangeLaws.{slice_get-push}
 
 -- the menus at a point of the first n lengths
 pub record AreFirstMenus (f : FoldValue) (x : Bricks) (menus : List (List Menu)) (n : ℕ) : Type 0 where
@@ -63,7 +63,7 @@ following_more f x y menus more n m here is low so_far = record {
         AreMenus f y k other
     by k other under there (inl same) =
         let written : m ≡ other =
-        at_same (slice_get more n) m other (ap (λ ms. slice_get ms n) is ∙ slice_get-set_same menus n m low)
+        same_value (slice_get more n) m other (ap (λ ms. slice_get ms n) is ∙ slice_get-set_same menus n m low)
         (ap (slice_get more) (sym same) ∙ there) in
         subst (AreMenus f y k) written (subst (λ j. AreMenus f y j m) (sym same) here)
     by k other under there (inr (inl before)) =

@@ -17,7 +17,7 @@ impl<'a, N: Gains> Bound for Looking<'a, N> {
     ghost use Rattle.std.proofs.Common.{refl, ap, ◌∙◌};
     ghost use Rattle.board_laws.specs.Indexes.{index_key};
     ghost use Rattle.board_laws.specs.Views.{seeing_view};
-    ghost use Rattle.board_laws.proofs.Orders.{no_worse_itself, no_worse_through};
+    ghost use Rattle.gain_laws.proofs.Keys.{no_worse_itself, no_worse_through};
     ghost use Rattle.round_workers.specs.Looks.{IsLater};
 
     ghost last = { λ b. index_key N.gains b.seat.view.seen };

@@ -1,5 +1,6 @@
 -- The best step of the first lengths: none at first, then one more length at a time, and at the end the rule's step.
-use Rattle.std.proofs.Common.{◌≡◌, ◌≢◌, ℕ, ◌+◌, ◌<◌, ◌≤◌, ◌↔◌, ◌≤ℤ◌, ◌<ℤ◌, false, pos, Option, Some, None, IsTrue, sym, subst, arith, inl, inr}
+use Rattle.std.proofs.Common.{◌≡◌, ◌≢◌, ℕ, ◌+◌, ◌<◌, ◌≤◌, ◌↔◌, ◌≤ℤ◌, ◌<ℤ◌, false, pos, Option, Some, None, IsTrue, sym}
+use Rattle.std.proofs.Common.{subst, arith, inl, inr}
 use Rattle.std.proofs.lemmas.Int.{ints}
 use Rattle.std.proofs.lemmas.Bool.{cases_order}
 use Rattle.run_theory.specs.declared.Key.{Key}
@@ -11,7 +12,8 @@ use Rattle.run_theory.specs.Keys.{beats, beaten}
 use Rattle.run_theory.specs.Folds.{FoldValue}
 use Rattle.run_theory.specs.Bests.{IsBestOfLength, IsFound, NoneOfLength, IsBeaten, IsRuleStep}
 use Rattle.rule_laws.specs.BestUpTo.{IsBestBelow, IsBestUpTo, key_of, kept_key}
-use Rattle.rule_laws.proofs.Costs.{Gains, after, worth, move, key_at, NoLater, beats_lesser, unbeaten_gains, worth_after, later_costs, cheaper_first, beating_first}
+use Rattle.rule_laws.proofs.Costs.{Gains, after, worth, move, key_at, NoLater, beats_lesser, unbeaten_gains}
+use Rattle.rule_laws.proofs.Costs.{worth_after, later_costs, cheaper_first, beating_first}
 
 module _ (f : FoldValue) (x : Bricks) where
   -- ---- one length

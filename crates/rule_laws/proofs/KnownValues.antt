@@ -1,7 +1,8 @@
 -- The laws at values worked by hand: the program of two bricks in phase Closed at the point (0, 4), (3, 1), of cost 9,
 -- with the sums -e, 0 and e, where e = (1, -1). The one move that stays within the bounds and keeps the linking row is
 -- (e, -e). Once and twice the move both lead to cost 5, so lengths 0 and 1 gain 4 each; four times leaves the bounds.
-use Rattle.std.proofs.Common.{unsigned_abs, ◌≡◌, ◌≢◌, ℕ, zero, suc, ◌^◌, ◌<◌, ◌≤◌, ◌↔◌, pos, List, [], ◌∷◌, Contains, Option, Some, None, IsTrue, slice_get, refl, sym, subst, arith, lit<, lit≤, inl, inr}
+use Rattle.std.proofs.Common.{unsigned_abs, ◌≡◌, ◌≢◌, ℕ, zero, suc, ◌^◌, ◌<◌, ◌≤◌, ◌↔◌, pos, List, [], ◌∷◌, Contains}
+use Rattle.std.proofs.Common.{Option, Some, None, IsTrue, slice_get, refl, sym, subst, arith, lit<, lit≤, inl, inr}
 use Rattle.std.proofs.lemmas.Int.{ints}
 use Rattle.std.proofs.lemmas.List.Elements.{All-head, All-tail, All-from_recursion}
 use Rattle.std.proofs.Math.Pow.{pow_mono}

@@ -2,7 +2,8 @@
 -- brick row, and the linking row v <= 1: its slack bases, its brick sums, its run, which is one step from 0 to 1 that
 -- changes what the linking row rests, and its outcome, which is that 0 is the least cost. The brick of the second has
 -- no column, and a row that is to be 1.
-use Rattle.std.specs.Prelude.{◌≡◌, ℕ, zero, suc, ◌≤◌, ◌^◌, ℤ, pos, negsuc, ◌+ℤ◌, ◌-ℤ◌, ◌*ℤ◌, ◌≤ℤ◌, unsigned_abs, List, [], ◌∷◌, length, Some, None, Contains, IsTrue, refl, true, false}
+use Rattle.std.specs.Prelude.{◌≡◌, ℕ, zero, suc, ◌≤◌, ◌^◌, ℤ, pos, negsuc, ◌+ℤ◌, ◌-ℤ◌, ◌*ℤ◌, ◌≤ℤ◌, unsigned_abs, List}
+use Rattle.std.specs.Prelude.{[], ◌∷◌, length, Some, None, Contains, IsTrue, refl, true, false}
 use Rattle.std.proofs.Common.{arith, sym, ◌∙◌, ◌⊎◌, inl, inr, subst}
 use Rattle.std.proofs.lemmas.Int.{ints}
 use Rattle.std.proofs.lemmas.Bool.Decides.{nat_tests}

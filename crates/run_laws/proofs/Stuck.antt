@@ -6,10 +6,12 @@ use Rattle.lattice_theory.specs.Lattices.{IsSlackBasis}
 use Rattle.fold_theory.specs.Programs.{Program, Brick, IsProgram, brick_residual}
 use Rattle.run_theory.specs.BrickRuns.{BrickMove, IsBrickRun}
 use Rattle.fold_theory.specs.Verdicts.{Holds}
-use Rattle.piece_laws.proofs.Misses.{brick_at, brick_miss_holds}
-use Rattle.run_laws.proofs.BrickRuns.{brick_run_end, run_no_help}
+use Rattle.piece_laws.proofs.Misses.{brick_miss_holds}
+use Rattle.run_laws.proofs.BrickRuns.{run_no_help}
 use Rattle.piece_laws.proofs.Bricks.{IsHeldBrick, least_residual}
+use Rattle.piece_laws.proofs.BrickEnds.{brick_run_end}
 use Rattle.cover_laws.proofs.SlackBases.{slack_basis_complete}
+use Rattle.fold_laws.proofs.Points.{brick_at}
 
 -- the verdict on a brick whose run ends with a residual is true
 pub stuck_holds : (p : Program) (basis : List Vector) (place : ℕ) (brick : Brick) (moves : List BrickMove)

@@ -1,35 +1,28 @@
 -- What an outcome says of its program is true.
-use Rattle.std.proofs.Common.{◌≡◌, ℕ, ◌<◌, ◌≤◌, ℤ, List, [], ◌∷◌, length, Option, Some, None, arith, sym, ◌∙◌, subst}
+use Rattle.std.proofs.Common.{◌≡◌, ℕ, ◌<◌, ◌≤◌, ℤ, List, [], ◌∷◌, length, Option, Some, None, arith, sym, subst}
 use Rattle.std.proofs.lemmas.Int.{ints}
 use Rattle.std.specs.List.{AllZip, AllByRecursion}
 use Rattle.fold_theory.specs.declared.Phase.TheVariants.{Closed, Counted}
 use Rattle.fold_theory.specs.declared.Verdict.{Verdict}
 use Rattle.fold_theory.specs.declared.Verdict.TheVariants.{Optimal, InfeasibleBrick, InfeasibleLink}
-use Rattle.lattice_theory.specs.Vectors.{Vector, sub}
+use Rattle.lattice_theory.specs.Vectors.{Vector}
 use Rattle.lattice_theory.specs.Matrices.{product}
 use Rattle.lattice_theory.specs.Lattices.{IsSlackBasis}
-use Rattle.lattice_laws.proofs.Conformal.{norm_none}
-use Rattle.lattice_laws.proofs.Products.{length-rows}
-use Rattle.fold_theory.specs.Programs.{Program, Brick, Bricks, IsBrick, IsProgram, IsFeasible, AreWithin, brick_residual, link_rests, link_miss, cost}
+use Rattle.fold_theory.specs.Programs.{Program, Brick, Bricks, IsBrick, IsProgram, IsFeasible, AreWithin}
+use Rattle.fold_theory.specs.Programs.{brick_residual, link_rests, link_miss, cost}
 use Rattle.fold_theory.specs.Verdicts.{Holds}
 use Rattle.run_theory.specs.Links.{Bases, AreBases}
 use Rattle.run_theory.specs.BrickRuns.{BrickMove}
-use Rattle.run_theory.specs.Outcomes.{Outcome, RunRecord, AllSettle, FirstStuck, CountedPart, ClosedPart, IsOutcome, HoldsAt}
-use Rattle.lattice_laws.proofs.Sums.{same_vector}
+use Rattle.run_theory.specs.Outcomes.{Outcome, RunRecord, AllSettle, FirstStuck, CountedPart, ClosedPart, IsOutcome}
+use Rattle.run_theory.specs.Outcomes.{HoldsAt}
 use Rattle.piece_laws.proofs.Starts.{bricks_of}
+use Rattle.piece_laws.proofs.BrickEnds.{brick_run_end}
 use Rattle.run_theory.specs.Starts.{IsStart}
-use Rattle.run_laws.proofs.BrickRuns.{brick_run_end}
+use Rattle.fold_laws.proofs.Rests.{met}
 use Rattle.run_laws.proofs.Stuck.{stuck_holds}
 use Rattle.run_laws.proofs.PhaseRuns.{run_best}
 
 module _ (p : Program) where
-  -- a vector that misses nothing meets the rows
-  met : (b : Brick) (v : Vector) → length b.right ≡ length p.brick.rows → brick_residual p b v ≡ 0 →
-      product p.brick v ≡ b.right
-  met b v right none =
-      same_vector (product p.brick v) b.right (length-rows p.brick.rows v ∙ sym right)
-      (norm_none (sub b.right (product p.brick v)) none)
-
   -- where all bricks settle, they are within the bounds and meet their rows
   settled : (basis : List Vector) (bs : List Brick) (traces : List (List BrickMove)) (x : Bricks) →
       AllByRecursion (IsBrick p.brick.cols (length p.brick.rows)) bs → AllSettle p basis bs traces x →
@@ -42,7 +35,7 @@ module _ (p : Program) where
   settled basis (b ∷ bs) (ms ∷ traces) (v ∷ x) is all =
       let end = brick_run_end p basis b ms v is.0.uncrossed all.0 in
       let rest = settled basis bs traces x is.1 all.2 in
-      ((end.within, rest.0), (met b v is.0.right_size all.1, rest.1))
+      ((end.within, rest.0), (met p b v is.0.right_size all.1, rest.1))
 
   -- so the first phase can start there
   pub settled_start : (basis : List Vector) (traces : List (List BrickMove)) (x : Bricks) → IsProgram p →

@@ -1,30 +1,19 @@
 -- A unit step that moves something is a candidate step of length 1, so where no such one lowers the phase cost no unit
 -- step does.
-use Rattle.std.proofs.Common.{◌≡◌, ℕ, pos, negsuc, ℤ, ◌-ℤ◌, ◌≤ℤ◌, ◌<ℤ◌, true, false, List, [], ◌∷◌, length, refl, ap, arith, sym, ◌∙◌, Contains, inl, inr, subst}
+use Rattle.std.proofs.Common.{◌≡◌, pos, negsuc, ℤ, ◌-ℤ◌, ◌≤ℤ◌, ◌<ℤ◌, false, List, length, refl, ap, arith, sym}
+use Rattle.std.proofs.Common.{Contains, inl, inr, subst}
 use Rattle.std.proofs.lemmas.Int.{ints}
 use Rattle.std.proofs.lemmas.List.Elements.{All-from_recursion}
 use Rattle.std.specs.List.{list_all}
 use Rattle.fold_theory.specs.declared.Phase.{Phase}
-use Rattle.lattice_theory.specs.Vectors.{Vector, is_zero, add, zeros}
+use Rattle.lattice_theory.specs.Vectors.{Vector, is_zero, zeros}
 use Rattle.lattice_laws.specs.VectorLists.{AreSized}
-use Rattle.lattice_laws.proofs.Tests.{and_true, true_or_false}
-use Rattle.lattice_laws.proofs.Products.{zeros_is}
-use Rattle.lattice_laws.proofs.Sums.{add_zeros}
+use Rattle.lattice_laws.proofs.Tests.{true_or_false}
 use Rattle.fold_theory.specs.Programs.{Program, Bricks, AreWithin, phase_cost}
 use Rattle.run_theory.specs.Steps.{partial_sums, AllowsEnd, IsCandidate, Augments}
 use Rattle.piece_laws.specs.Points.{forth}
 use Rattle.piece_laws.specs.Pieces.{IsUnitStep}
-use Rattle.piece_laws.proofs.Points.{moved_once}
-
--- a move of zeros leads nowhere
-forth_none : (t : ℕ) (x h : Bricks) → AreSized t x → AreSized t h → length h ≡ length x → list_all is_zero h ≡ true →
-    forth x h ≡ x
-forth_none t [] h sx sh size none = refl
-forth_none t (v ∷ x) [] sx sh size none = absurd (omega arith)
-forth_none t (v ∷ x) (d ∷ h) sx sh size none =
-    let q = and_true (is_zero d) (list_all is_zero h) none in
-    let here : add v d ≡ v = ap (add v) (zeros_is d q.0 ∙ ap zeros sh.0) ∙ add_zeros v t sx.0 in
-    λ i. here i ∷ forth_none t x h sx.1 sh.1 (omega arith) q.1 i
+use Rattle.piece_laws.proofs.Points.{moved_once, forth_none}
 
 module _ (p : Program) (phase : Phase) (zs : List Vector) (x : Bricks) where
   -- a unit step that is not 0 is a candidate

@@ -1,10 +1,12 @@
 -- Live nodes at values worked by hand: the program of two bricks in phase Closed at the point (0, 4), (3, 1), with its
 -- five sums and steps of length 2. Twice (1, -1) and then twice (-1, 1) lower the cost of the second brick from 9 to 1,
 -- and the least that the first brick changes its cost by is 0, so each of the two nodes on this way is worth 8.
-use Rattle.std.specs.Prelude.{◌<ℤ◌, Bool, map, ◌≡◌, ℕ, zero, suc, ℤ, pos, ◌+ℤ◌, ◌≤ℤ◌, neg_ℤ, unsigned_abs, true, false, List, [], ◌∷◌, drop, Contains, Option, Some, None, refl}
+use Rattle.std.specs.Prelude.{◌<ℤ◌, Bool, map, ◌≡◌, ℕ, zero, suc, ℤ, pos, ◌+ℤ◌, ◌≤ℤ◌, neg_ℤ, unsigned_abs, true, false}
+use Rattle.std.specs.Prelude.{List, [], ◌∷◌, drop, Contains, Option, Some, None, refl}
 use Rattle.std.proofs.Common.{arith, subst, ap, lit≤}
 use Rattle.std.proofs.lemmas.Int.{ints}
 use Rattle.std.proofs.lemmas.List.Elements.{All-head, All-nil, All-from_recursion}
+use Rattle.std.proofs.lemmas.Option.{same_Some}
 use Rattle.fold_theory.specs.declared.Phase.TheVariants.{Closed}
 use Rattle.run_theory.specs.declared.Key.{Key}
 use Rattle.lattice_theory.specs.Vectors.{Vector}
@@ -42,9 +44,6 @@ still_listed = (2, omega arith, refl)
 ahead_listed : Contains zs (times (pos 1))
 ahead_listed = (3, omega arith, refl)
 
-some_is : (a b : ℤ) → Some a ≡ Some b → a ≡ b
-some_is a b e = cc
-
 -- ---- walks from the layers
 
 -- of the length 2, from the sum w at layer i to the end
@@ -67,7 +66,7 @@ module _ (P : Vector → ℤ → Type 0) (back : P (times (pos 1)) (minus 8)) (r
       (λ c walk. absurd (cc (walk.ends)))
       (λ c walk. absurd (cc (walk.ends)))
       (λ c walk.
-      let last = some_is (pos 0) walk.last walk.ends in
+      let last = same_Some (pos 0) walk.last walk.ends in
       let cost : minus 8 ≡ c = omega (arith, ints, last, walk.is) in
       subst (P (times (pos 1))) cost back)
       (λ c walk. absurd (cc (walk.ends)))
@@ -76,7 +75,7 @@ module _ (P : Vector → ℤ → Type 0) (back : P (times (pos 1)) (minus 8)) (r
       (λ c walk. absurd (cc (walk.ends)))
       (λ c walk. absurd (cc (walk.ends)))
       (λ c walk.
-      let last = some_is (pos 0) walk.last walk.ends in
+      let last = same_Some (pos 0) walk.last walk.ends in
       let cost : pos 0 ≡ c = omega (arith, ints, last, walk.is) in
       subst (P (times (pos 0))) cost rest)
       (λ c walk. absurd (cc (walk.ends)))
@@ -103,7 +102,7 @@ module _ (P : Vector → ℤ → Type 0) (rest : P (times (pos 0)) (pos 0)) wher
       (λ c walk. absurd (cc (walk.ends)))
       (λ c walk. absurd (cc (walk.ends)))
       (λ c walk.
-      let last = some_is (pos 0) walk.last walk.ends in
+      let last = same_Some (pos 0) walk.last walk.ends in
       let cost : pos 0 ≡ c = omega (arith, ints, last, walk.is) in
       subst (P (times (pos 0))) cost rest)
       (λ c walk. absurd (cc (walk.ends)))

@@ -92,7 +92,11 @@ without_last = record {
   fold = Some (record {
     links = record { cols = 2; rows = (pos 1 ∷ pos 1 ∷ []) ∷ [] };
     bound = 2;
-    sums = record { cols = 3; rows = sum_line 2 (minus 2) (pos 2) ∷ sum_line 1 (minus 1) (pos 1) ∷ sum_line 0 (pos 0) (pos 0) ∷ sum_line 1 (pos 1) (minus 1) ∷ [] };
+    sums = record {
+      cols = 3;
+      rows = sum_line 2 (minus 2) (pos 2) ∷ sum_line 1 (minus 1) (pos 1)
+          ∷ sum_line 0 (pos 0) (pos 0) ∷ sum_line 1 (pos 1) (minus 1) ∷ [];
+    };
     potentials = record {
       cols = 4;
       rows =
@@ -165,7 +169,8 @@ closed_complexity_of_at_most = refl
 abbrev pub supplier_basis : List Vector
 supplier_basis =
     four (pos 0) (pos 0) (pos 1) (pos 1) ∷ four (pos 0) (pos 1) (minus 1) (pos 0) ∷ four (pos 0) (pos 1) (pos 0) (pos 1)
-    ∷ four (pos 1) (minus 1) (pos 0) (pos 0) ∷ four (pos 1) (pos 0) (minus 1) (pos 0) ∷ four (pos 1) (pos 0) (pos 0) (pos 1) ∷ []
+    ∷ four (pos 1) (minus 1) (pos 0) (pos 0) ∷ four (pos 1) (pos 0) (minus 1) (pos 0)
+    ∷ four (pos 1) (pos 0) (pos 0) (pos 1) ∷ []
 
 pub supplier_bricks_complete : is_complete_for suppliers.brick supplier_basis ≡ true
 supplier_bricks_complete = refl
@@ -173,7 +178,8 @@ supplier_bricks_complete = refl
 abbrev pub supplier_links : Matrix
 supplier_links = link_matrix suppliers.link (kernel 3 supplier_basis)
 
-pub supplier_columns : supplier_links.rows ≡ (pos 0 ∷ pos 1 ∷ pos 1 ∷ []) ∷ (pos 1 ∷ minus 1 ∷ pos 0 ∷ []) ∷ (minus 1 ∷ pos 0 ∷ minus 1 ∷ []) ∷ []
+pub supplier_columns : supplier_links.rows ≡ (pos 0 ∷ pos 1 ∷ pos 1 ∷ []) ∷ (pos 1 ∷ minus 1 ∷ pos 0 ∷ [])
+    ∷ (minus 1 ∷ pos 0 ∷ minus 1 ∷ []) ∷ []
 supplier_columns = refl
 
 -- (w, M·w) for w = 001, 010, 01-1, 100, 10-1, 110, 11-1

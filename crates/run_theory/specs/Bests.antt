@@ -19,7 +19,8 @@ pub record IsBestOfLength (f : FoldValue) (x : Bricks) (k : ℕ) (h : Bricks) : 
 
 -- the step is the best one of its length
 abbrev pub IsFound : FoldValue → Bricks → ℕ → Step → Type 0
-IsFound f x k s = (h : Bricks) × IsBestOfLength f x k h × (s ≡ step_at f.program f.phase x (record { k = k; bricks = h }))
+IsFound f x k s = (h : Bricks) × IsBestOfLength f x k h
+    × (s ≡ step_at f.program f.phase x (record { k = k; bricks = h }))
 
 -- no step of that length gains
 abbrev pub NoneOfLength : FoldValue → Bricks → ℕ → Type 0
@@ -37,9 +38,10 @@ IsRuleStep f x (Some s) =
     (m : Move) × IsBest f.program f.phase (vectors f.sums) x m × (s ≡ step_at f.program f.phase x m)
 
 -- for each step length the greatest gain of a candidate, where one has a gain above 0
-pub record AreGains (p : Program) (phase : Phase) (zs : List Vector) (x : Bricks) (gains : List (Option ℕ)) : Type 0 where
-  pub lengths : (k : ℕ) → (k < length gains) ↔ IsLength p k
-  pub each : (k : ℕ) (g : Option ℕ) → slice_get gains k ≡ Some g → IsGain p phase zs x k g
+pub record AreGains (p : Program) (phase : Phase) (zs : List Vector) (x : Bricks) (gains : List (Option ℕ)) : Type 0
+  where
+    pub lengths : (k : ℕ) → (k < length gains) ↔ IsLength p k
+    pub each : (k : ℕ) (g : Option ℕ) → slice_get gains k ≡ Some g → IsGain p phase zs x k g
 
 -- the length whose key beats that of every other length that gains; none where no length gains
 abbrev pub IsBestByGains : List (Option ℕ) → Option ℕ → Type 0

@@ -25,7 +25,8 @@ stepped v m = add v (scale (pos (2 ^ m.k)) m.vector)
 
 -- v or its opposite is the first part of a listed element
 abbrev pub IsSignedPart : Program → List Vector → Vector → Type 0
-IsSignedPart p basis v = Contains (first_parts p.brick.cols basis) v ⊎ Contains (map opposite (first_parts p.brick.cols basis)) v
+IsSignedPart p basis v = Contains (first_parts p.brick.cols basis) v
+    ⊎ Contains (map opposite (first_parts p.brick.cols basis)) v
 
 -- a step of the brick that lowers its residual
 pub record Improves (p : Program) (basis : List Vector) (b : Brick) (v : Vector) (m : BrickMove) : Type 0 where

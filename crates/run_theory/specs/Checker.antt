@@ -1,5 +1,6 @@
 -- The rules of the checker: when a certificate is accepted, and which rule it breaks first.
-use Rattle.std.specs.Prelude.{◌≡◌, ℕ, suc, ◌+◌, ◌-◌, ℤ, pos, ◌+ℤ◌, int_le, nat_eq, nat_le, nat_lt, Bool, true, false, ◌&&◌, ◌||◌, not, List, [], ◌∷◌, length, cond, Option, Some, None, slice_get}
+use Rattle.std.specs.Prelude.{◌≡◌, ℕ, suc, ◌+◌, ◌-◌, ℤ, pos, ◌+ℤ◌, int_le, nat_eq, nat_le, nat_lt, Bool, true, false}
+use Rattle.std.specs.Prelude.{◌&&◌, ◌||◌, not, List, [], ◌∷◌, length, cond, Option, Some, None, slice_get}
 use Rattle.std.specs.List.{list_all, list_any}
 use Rattle.fold_theory.specs.declared.Phase.{Phase}
 use Rattle.fold_theory.specs.declared.Phase.TheVariants.{Closed, Counted}
@@ -52,7 +53,8 @@ sums_are_closed t gens bound sums =
     is_rising (vectors sums)
     && is_sum_within sums 0 (zeros t)
     && list_all (λ s. nat_le bound s.level
-    || list_all (λ e. is_sum_within sums (suc s.level) (add s.vector e) && is_sum_within sums (suc s.level) (sub s.vector e)) gens) sums
+    || list_all (λ e. is_sum_within sums (suc s.level) (add s.vector e) && is_sum_within sums (suc s.level)
+    (sub s.vector e)) gens) sums
 
 -- a is at most b, where none stands for infinity
 abbrev pub at_most : Option ℤ → Option ℤ → Bool

@@ -1,5 +1,6 @@
 -- When the solver gives up, and for which limit: the first one on the way to the outcome.
-use Rattle.std.specs.Prelude.{◌≡◌, ℕ, ◌+◌, ◌*◌, ◌^◌, ◌<◌, ◌≤◌, ℤ, unsigned_abs, List, length, All, slice_get, Some, Option}
+use Rattle.std.specs.Prelude.{◌≡◌, ℕ, ◌+◌, ◌*◌, ◌^◌, ◌<◌, ◌≤◌, ℤ, unsigned_abs, List, length, All, slice_get, Some}
+use Rattle.std.specs.Prelude.{Option}
 use Rattle.fold_theory.specs.declared.Phase.{Phase}
 use Rattle.fold_theory.specs.declared.Phase.TheVariants.{Closed, Counted}
 use Rattle.run_theory.specs.declared.SolveFault.{SolveFault}
@@ -76,6 +77,7 @@ IsLimit p c (fault.Sums phase) =
     (b : Bases) × (x : Bricks) × LinkStageWithin p c b x × PhaseBegins p phase b x × CountedStageWithin p c phase b x
     × ExceedsSums p phase b c.sums
 IsLimit p c (fault.Table phase) =
-    (b : Bases) × (x : Bricks) × (sums : List Sum) × LinkStageWithin p c b x × PhaseBegins p phase b x × CountedStageWithin p c phase b x
+    (b : Bases) × (x : Bricks) × (sums : List Sum) × LinkStageWithin p c b x × PhaseBegins p phase b x
+    × CountedStageWithin p c phase b x
     × SumStageWithin p c phase b sums × (2 ^ 20 < (length p.bricks + 1) * length sums)
 IsLimit p c fault.Memory = ⊥

@@ -26,7 +26,8 @@ counts_in Counted relations cols z = true
 -- the greatest 1-norm of a first part that counts, and at least the least value
 abbrev pub complexity : Phase → List Relation → Matrix → List Vector → ℕ
 complexity phase relations m basis =
-    max (least_complexity m) (greatest (map (λ z. norm1 (take m.cols z)) (filter (counts_in phase relations m.cols) basis)))
+    max (least_complexity m) (greatest (map (λ z. norm1 (take m.cols z))
+    (filter (counts_in phase relations m.cols) basis)))
 
 -- the slack basis of the brick matrix, and that of the link matrix
 pub record Bases : Type 0 where

@@ -1,5 +1,6 @@
 -- The outcome of a program: the runs of its bricks, the runs of its phases, the verdict and its certificate.
-use Rattle.std.specs.Prelude.{◌≡◌, ℕ, ◌+◌, ◌*◌, ◌<◌, ◌≤◌, ℤ, pos, ◌-ℤ◌, unsigned_abs, true, false, List, [], ◌∷◌, ◌++◌, map, length, take, Option, Some, None, slice_get, All}
+use Rattle.std.specs.Prelude.{◌≡◌, ℕ, ◌+◌, ◌*◌, ◌<◌, ◌≤◌, ℤ, pos, ◌-ℤ◌, unsigned_abs, true, false, List, [], ◌∷◌, ◌++◌}
+use Rattle.std.specs.Prelude.{map, length, take, Option, Some, None, slice_get, All}
 use Rattle.fold_theory.specs.declared.Phase.{Phase}
 use Rattle.fold_theory.specs.declared.Phase.TheVariants.{Closed, Counted}
 use Rattle.fold_theory.specs.declared.Verdict.{Verdict}
@@ -9,7 +10,8 @@ use Rattle.lattice_theory.specs.Lists.{greatest}
 use Rattle.lattice_theory.specs.Vectors.{Vector, is_zero}
 use Rattle.lattice_theory.specs.Matrices.{Matrix, product}
 use Rattle.lattice_theory.specs.Lattices.{IsSlackBasis}
-use Rattle.fold_theory.specs.Programs.{Program, Brick, Bricks, IsFeasible, brick_residual, link_rests, link_miss, phase_cost, cost}
+use Rattle.fold_theory.specs.Programs.{Program, Brick, Bricks, IsFeasible, brick_residual, link_rests, link_miss}
+use Rattle.fold_theory.specs.Programs.{phase_cost, cost}
 use Rattle.fold_theory.specs.Verdicts.{Holds}
 use Rattle.run_theory.specs.Links.{Bases, AreBases, generators, fold_complexity}
 use Rattle.lattice_theory.specs.SignedSums.{Sum, vectors}
@@ -60,7 +62,8 @@ pub record RunRecord : Type 0 where
   pub gain : ℕ
   pub factor : ℕ
 
-pub record IsRecorded (p : Program) (phase : Phase) (zs : List Vector) (x : Bricks) (made : RunRecord) (last : Bricks) : Type 0 where
+pub record IsRecorded (p : Program) (phase : Phase) (zs : List Vector) (x : Bricks) (made : RunRecord) (last : Bricks) :
+    Type 0 where
   pub moves : List Move
   pub run : IsRun p phase zs x moves last
   pub steps : made.steps ≡ steps_from p phase x moves
@@ -75,7 +78,8 @@ AllSettle p basis (b ∷ bs) (ms ∷ traces) (v ∷ x) =
 AllSettle p basis bs traces x = ⊥
 
 -- the first brick whose run ends with a residual
-pub record FirstStuck (p : Program) (basis : List Vector) (number residual : ℕ) (v : Vector) (traces : List (List BrickMove)) : Type 0 where
+pub record FirstStuck (p : Program) (basis : List Vector) (number residual : ℕ) (v : Vector)
+    (traces : List (List BrickMove)) : Type 0 where
   pub place : ℕ
   pub numbered : number ≡ place + 1
   pub brick : Brick
@@ -100,7 +104,8 @@ pub record Outcome : Type 0 where
 abbrev pub CountedPart : Program → Bases → Bricks → Option RunRecord → Bricks → Type 0
 CountedPart p b x None y = (link_miss p (link_rests p x) ≡ 0) × (y ≡ x)
 CountedPart p b x (Some made) y =
-    (0 < link_miss p (link_rests p x)) × (sums : List Sum) × AreBrickSums p Counted b sums × IsRecorded p Counted (vectors sums) x made y
+    (0 < link_miss p (link_rests p x)) × (sums : List Sum) × AreBrickSums p Counted b sums
+    × IsRecorded p Counted (vectors sums) x made y
 
 -- phase Closed, from a feasible point
 abbrev pub ClosedPart : Program → Bases → Bricks → Option RunRecord → Bricks → Type 0
@@ -113,11 +118,13 @@ abbrev pub IsOutcome : Program → Outcome → Type 0
 IsOutcome p o =
     elim o.verdict [
       | InfeasibleBrick number residual ↦
-          (basis : List Vector) × (v : Vector) × IsSlackBasis p.brick basis × FirstStuck p basis number residual v o.traces
+          (basis : List Vector) × (v : Vector) × IsSlackBasis p.brick basis
+          × FirstStuck p basis number residual v o.traces
           × (o.point ≡ v ∷ []) × (o.counted ≡ None) × (o.closed ≡ None)
       | InfeasibleLink residual ↦
           (b : Bases) × (x : Bricks) × AreBases p b × AllSettle p b.brick p.bricks o.traces x
-          × CountedPart p b x o.counted o.point × (link_miss p (link_rests p o.point) ≡ residual) × (0 < residual) × (o.closed ≡ None)
+          × CountedPart p b x o.counted o.point × (link_miss p (link_rests p o.point) ≡ residual) × (0 < residual)
+          × (o.closed ≡ None)
       | Optimal c ↦
           (b : Bases) × (x : Bricks) × (y : Bricks) × AreBases p b × AllSettle p b.brick p.bricks o.traces x
           × CountedPart p b x o.counted y × (link_miss p (link_rests p y) ≡ 0)

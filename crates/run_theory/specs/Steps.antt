@@ -1,5 +1,6 @@
 -- Augmenting steps: candidates, the rule that picks one, and the run of a phase.
-use Rattle.std.specs.Prelude.{◌≡◌, ℕ, ◌^◌, ◌≤◌, ℤ, pos, ◌-ℤ◌, ◌<ℤ◌, unsigned_abs, false, List, [], ◌∷◌, length, All, Contains, Option, Some, None, IsTrue}
+use Rattle.std.specs.Prelude.{◌≡◌, ℕ, ◌^◌, ◌≤◌, ℤ, pos, ◌-ℤ◌, ◌<ℤ◌, unsigned_abs, false, List, [], ◌∷◌, length, All}
+use Rattle.std.specs.Prelude.{Contains, Option, Some, None, IsTrue}
 use Rattle.std.specs.List.{list_all}
 use Rattle.std.specs.Ordering.{int_cmp, nat_cmp, ordering_then, is_le}
 use Rattle.std.specs.Cmp.Lexicographic.{slice_cmp}
@@ -62,7 +63,8 @@ rule_cmp p phase x a b =
 -- the step augments, and no other comes before it
 pub record IsBest (p : Program) (phase : Phase) (zs : List Vector) (x : Bricks) (m : Move) : Type 0 where
   pub augments : Augments p phase zs x m.k m.bricks
-  pub first : (k : ℕ) (h : Bricks) → Augments p phase zs x k h → IsTrue (is_le (rule_cmp p phase x m (record { k = k; bricks = h })))
+  pub first : (k : ℕ) (h : Bricks) → Augments p phase zs x k h →
+      IsTrue (is_le (rule_cmp p phase x m (record { k = k; bricks = h })))
 
 -- no candidate lowers the phase cost
 abbrev pub NoneAugments : Program → Phase → List Vector → Bricks → Type 0

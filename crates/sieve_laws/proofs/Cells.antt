@@ -1,21 +1,11 @@
 -- What stands at a place of a list.
-use Rattle.std.proofs.Common.{◌≡◌, ◌≢◌, ℕ, zero, suc, ◌<◌, List, [], ◌∷◌, length, get_or, refl, ap, arith, Option, Some}
-use Rattle.std.proofs.Common.{None}
-use Rattle.std.proofs.lemmas.Option.{slice_get-get_or}
+use Rattle.std.proofs.Common.{◌≡◌, ◌≢◌, ℕ, zero, suc, ◌<◌, List, [], ◌∷◌, length, refl, ap, arith, Option, Some, None}
 use Rattle.std.proofs.Math.ListN.{set}
 use Rattle.std.specs.Prelude.{slice_get}
 
 module _ {A : Type 0} where
-  pub at_same : (o : Option A) (a b : A) → o ≡ Some a → o ≡ Some b → a ≡ b
-  at_same o a b p q = cc
-
   pub not_none : {P : Type 0} (o : Option A) (a : A) → o ≡ Some a → o ≡ None → P
   not_none o a p q = absurd (cc)
-
-  -- something stands at each place
-  pub read_at : (xs : List A) (i : ℕ) → i < length xs → (x : A) × (slice_get xs i ≡ Some x)
-  read_at [] i low = absurd (omega arith)
-  read_at (x ∷ xs) i low = (get_or (x ∷ xs) i x, slice_get-get_or (x ∷ xs) i x low)
 
   -- what was written stands at its place
   pub slice_get-set_same : (xs : List A) (i : ℕ) (x : A) → i < length xs → slice_get (set xs i x) i ≡ Some x

@@ -13,7 +13,7 @@ use Rattle.run_theory.specs.Walks.{brick_change, end_cost, WalkCosts}
 use Rattle.lattice_laws.proofs.Members.{contains_cases, contains_head, contains_tail}
 use Rattle.lattice_laws.proofs.Rising.{rising_tail, rising_above}
 use Rattle.lattice_laws.proofs.Tests.{same_or_not, true_or_false, not_both}
-use Rattle.piece_laws.proofs.Bounds.{is_within_true, is_within_of}
+use Rattle.fold_laws.proofs.Bounds.{is_within_true, is_within_of}
 use Rattle.walk_laws.proofs.Orders.{first_decides, tails_decide}
 use Rattle.walk_laws.proofs.Walks.{Front, front_of, walk_of}
 use Rattle.walk_laws.proofs.BestWalks.{IsBestWalk, best_end, least_end}
@@ -36,9 +36,11 @@ module _ (p : Program) (phase : Phase) (zs : List Vector) (k : ℕ) (rests : Vec
   -- a best walk from w, or no walk at all
   abbrev pub BestOrNone : List Brick → Bricks → Vector → Type 0
   BestOrNone bs x w =
-      ((h : Bricks) × (c : ℤ) × IsBestWalk p phase zs k rests bs x w h c) ⊎ ((h : Bricks) (c : ℤ) → Costs bs x w h c → ⊥)
+      ((h : Bricks) × (c : ℤ) × IsBestWalk p phase zs k rests bs x w h c) ⊎ ((h : Bricks) (c : ℤ) → Costs bs x w h c →
+      ⊥)
 
-  module _ (b : Brick) (bs : List Brick) (v : Vector) (x : Bricks) (w : Vector) (behind : (u : Vector) → BestOrNone bs x u) where
+  module _ (b : Brick) (bs : List Brick) (v : Vector) (x : Bricks) (w : Vector) (behind : (u : Vector) →
+      BestOrNone bs x u) where
     -- the best of the walks that begin with one of these moves
     record BestBy (ds : List Vector) (h : Bricks) (c : ℤ) : Type 0 where
       walk : Costs (b ∷ bs) (v ∷ x) w h c
@@ -61,7 +63,8 @@ module _ (p : Program) (phase : Phase) (zs : List Vector) (k : ℕ) (rests : Vec
     BestFromOrNone d =
         ((h : Bricks) × (c : ℤ) × BestFrom d h c) ⊎ ((g : Bricks) (e : ℤ) → Costs (b ∷ bs) (v ∷ x) w (d ∷ g) e → ⊥)
 
-    front : (d : Vector) (g : Bricks) (e : ℤ) → Costs (b ∷ bs) (v ∷ x) w (d ∷ g) e → Front p phase zs k rests b bs v x w d g e
+    front : (d : Vector) (g : Bricks) (e : ℤ) → Costs (b ∷ bs) (v ∷ x) w (d ∷ g) e →
+        Front p phase zs k rests b bs v x w d g e
     front d g e wc = front_of p phase zs k rests b bs v x w d g e wc
 
     by_move : (d : Vector) → Contains zs d → BestFromOrNone d
@@ -71,7 +74,8 @@ module _ (p : Program) (phase : Phase) (zs : List Vector) (k : ℕ) (rests : Vec
         by : (is_within b (after k v d) ≡ true) ⊎ (is_within b (after k v d) ≡ false) →
             Contains zs (add w d) ⊎ (Contains zs (add w d) → ⊥) → BestOrNone bs x (add w d) → BestFromOrNone d
         by (inr outside) sum rest =
-            inr (λ g e wc. not_both (is_within b (after k v d)) (is_within_of b (after k v d) (front d g e wc).within) outside)
+            inr (λ g e wc. not_both (is_within b (after k v d)) (is_within_of b (after k v d) (front d g e wc).within)
+            outside)
         by (inl inside) (inr unlisted) rest = inr (λ g e wc. unlisted (front d g e wc).sum)
         by (inl inside) (inl sum) (inr none) = inr (λ g e wc. none g (front d g e wc).rest (front d g e wc).walk)
         by (inl inside) (inl sum) (inl (h, r, best)) = inl (
@@ -175,7 +179,8 @@ module _ (p : Program) (phase : Phase) (zs : List Vector) (k : ℕ) (rests : Vec
           },
         )
 
-    by_moves : (ds : List Vector) → is_rising ds ≡ true → ((d : Vector) → Contains ds d → Contains zs d) → BestByOrNone ds
+    by_moves : (ds : List Vector) → is_rising ds ≡ true → ((d : Vector) → Contains ds d → Contains zs d) →
+        BestByOrNone ds
     by_moves [] rising listed = inr (λ d g e there wc. absurd (omega (arith, there.1)))
     by_moves (d ∷ ds) rising listed =
         with_move d ds rising (by_move d (listed d (contains_head d ds)))

@@ -1,14 +1,13 @@
 -- A brick all of whose moves are idle leaves the layer as it is.
-use Rattle.std.proofs.Common.{◌≡◌, ℕ, ◌+◌, ◌<◌, ◌≤◌, ℤ, ◌≤ℤ◌, List, length, ap, arith, ◌∙◌, Option, Some}
-use Rattle.std.proofs.Common.{subst, ◌⊎◌, inl, inr}
+use Rattle.std.proofs.Common.{◌≡◌, ℕ, ◌+◌, ◌<◌, ◌≤◌, ℤ, ◌≤ℤ◌, List, length, ap, arith, ◌∙◌, Option, Some, subst, ◌⊎◌}
+use Rattle.std.proofs.Common.{inl, inr}
 use Rattle.std.specs.Prelude.{slice_get}
 use Rattle.std.proofs.lemmas.Int.{ints}
 use Rattle.std.proofs.lemmas.Bool.{cases_lt}
 use Rattle.std.proofs.lemmas.Option.{slice_get_within}
 use Rattle.lattice_theory.specs.Vectors.{Vector}
 use Rattle.sieve_laws.specs.declared.PricedMove.{PricedMove}
-use Rattle.sieve_laws.specs.Sieve.{Layer, Menu, IsAtMost, IsIdle, AreIdle, AreIdleAt, MayStay, IsLayerOver}
-use Rattle.sieve_laws.specs.Sieve.{live}
+use Rattle.sieve_laws.specs.Sieve.{Layer, Menu, IsAtMost, IsIdle, AreIdle, AreIdleAt, MayStay, IsLayerOver, live}
 use Rattle.sieve_laws.proofs.Live.{reaches_less}
 
 module _ (zs : List Vector) (next : Layer) where

@@ -1,6 +1,6 @@
 -- Live cells of a layer, and moves that lead to them.
-use Rattle.std.proofs.Common.{◌≡◌, ℕ, zero, suc, ℤ, ◌≤ℤ◌, int_le, List, [], ◌∷◌, length, ap, arith, ◌∙◌}
-use Rattle.std.proofs.Common.{Option, Some, None, subst}
+use Rattle.std.proofs.Common.{◌≡◌, ℕ, zero, suc, ℤ, ◌≤ℤ◌, int_le, List, [], ◌∷◌, length, ap, arith, ◌∙◌, Option, Some}
+use Rattle.std.proofs.Common.{None, subst}
 use Rattle.std.proofs.lemmas.Int.{ints}
 use Rattle.std.proofs.lemmas.List.{length-map}
 use Rattle.std.proofs.lemmas.Bool.{cond-true}

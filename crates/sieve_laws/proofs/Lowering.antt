@@ -8,12 +8,12 @@ use Rattle.std.proofs.lemmas.Option.{slice_get_within}
 use Rattle.std.proofs.Math.ListN.{set}
 use Rattle.std.specs.Prelude.{slice_get}
 use Rattle.lattice_theory.specs.Vectors.{Vector, add, is_rising}
-use Rattle.lattice_laws.proofs.Rising.{lex_less_irrefl}
-use Rattle.walk_laws.proofs.Orders.{rising_places}
-use Rattle.sieve_laws.proofs.Cells.{at_same, read_at, slice_get-set_same, slice_get-set_other}
+use Rattle.lattice_laws.proofs.Rising.{lex_less_irrefl, rising_places}
+use Rattle.lattice_laws.proofs.Places.{same_value, there_at}
+use Rattle.sieve_laws.proofs.Cells.{slice_get-set_same, slice_get-set_other}
 use Rattle.sieve_laws.specs.declared.PricedMove.{PricedMove}
-use Rattle.sieve_laws.specs.Sieve.{Layer, Menu, Leads, Reaches, IsOffer, lesser, IsLoweredBy, IsAtMost, IsIdle}
-use Rattle.sieve_laws.specs.Sieve.{Goes, MayStay, IsLayerOver, live}
+use Rattle.sieve_laws.specs.Sieve.{Layer, Menu, Leads, Reaches, IsOffer, lesser, IsLoweredBy, IsAtMost, IsIdle, Goes}
+use Rattle.sieve_laws.specs.Sieve.{MayStay, IsLayerOver, live}
 use Rattle.sieve_laws.proofs.Live.{goes_live}
 
 -- ---- the lesser of two costs
@@ -75,7 +75,7 @@ module _ (zs : List Vector) (next : Layer) (m : PricedMove) (before : Layer) whe
           (offer : Option ℤ) × IsOffer zs next m w offer × (slice_get more w ≡ Some (lesser old offer))
       by w old low there (inl same) =
           let olds : kept ≡ old =
-          at_same (slice_get before n) kept old (sym (so_far.rest n (omega arith)) ∙ here)
+          same_value (slice_get before n) kept old (sym (so_far.rest n (omega arith)) ∙ here)
           (ap (slice_get before) (sym same) ∙ there) in (
             offer,
             subst (λ u. IsOffer zs next m u offer) (sym same) is,
@@ -134,8 +134,8 @@ module _ (zs : List Vector) (rising : is_rising zs ≡ true) where
   -- a move leads to one place
   pub leads_once : (h w i j : ℕ) → Leads zs h w i → Leads zs h w j → i ≡ j
   leads_once h w i j one two =
-      let starts : one.from ≡ two.from = at_same (slice_get zs w) one.from two.from one.start two.start in
-      let moves : one.by ≡ two.by = at_same (slice_get zs h) one.by two.by one.move two.move in
+      let starts : one.from ≡ two.from = same_value (slice_get zs w) one.from two.from one.start two.start in
+      let moves : one.by ≡ two.by = same_value (slice_get zs h) one.by two.by one.move two.move in
       let ends : add one.from one.by ≡ add two.from two.by = λ k. add (starts k) (moves k) in
       one_place i j (add two.from two.by) (one.end ∙ ap Some ends) two.end
 
@@ -144,7 +144,7 @@ module _ (zs : List Vector) (rising : is_rising zs ≡ true) where
   reaches_once next h w a b one two =
       let same : one.to ≡ two.to = leads_once h w one.to two.to one.leads two.leads in
       let cells : slice_get next two.to ≡ Some (Some a) = ap (slice_get next) (sym same) ∙ one.cell in
-      at_same (Some a) a b refl (at_same (slice_get next two.to) (Some a) (Some b) cells two.cell)
+      same_value (Some a) a b refl (same_value (slice_get next two.to) (Some a) (Some b) cells two.cell)
 
   pub lowered_none : (menu : Menu) (limit : ℤ) (next : Layer) → length next ≡ length zs → MayStay zs menu next →
       IsLowered zs menu limit next 0 next
@@ -159,7 +159,7 @@ module _ (zs : List Vector) (rising : is_rising zs ≡ true) where
       Goes zs menu next w i c →
       (a : ℤ) × Reaches zs next m.place w a × (c ≡ (m.change +ℤ a))
   goes_by menu next w i n c m there same goes =
-      let moves : goes.move ≡ m = at_same (slice_get menu n) goes.move m (ap (slice_get menu) (sym same)
+      let moves : goes.move ≡ m = same_value (slice_get menu n) goes.move m (ap (slice_get menu) (sym same)
       ∙ goes.there) there in (
         goes.rest,
         subst (λ (m : PricedMove). Reaches zs next m.place w goes.rest) moves goes.reach,
@@ -210,7 +210,7 @@ module _ (zs : List Vector) (rising : is_rising zs ≡ true) where
           offer = goes_by menu (live limit next) w i n c m there (omega (arith, low, high)) goes
 
           kept : (o : Option ℤ) × (slice_get layer w ≡ Some o)
-          kept = read_at layer w
+          kept = there_at layer w
               (omega (arith, so_far.size, slice_get_within zs w offer.1.leads.from offer.1.leads.start))
 
           new : (o : Option ℤ) × IsOffer zs (live limit next) m w o × (slice_get lower w ≡ Some (lesser kept.0 o))
@@ -228,13 +228,13 @@ module _ (zs : List Vector) (rising : is_rising zs ≡ true) where
       attained w c cell = told kept.0 kept.1 (by_move.cells w (kept.0) (kept.1))
         where
           kept : (o : Option ℤ) × (slice_get layer w ≡ Some o)
-          kept = read_at layer w (omega (arith, by_move.size, slice_get_within lower w (Some c) cell))
+          kept = there_at layer w (omega (arith, by_move.size, slice_get_within lower w (Some c) cell))
 
           offered : (offer : Option ℤ) → IsOffer zs (live limit next) m w offer → offer ≡ Some c →
               (i : ℕ) × Goes zs menu next w i c
           offered None none e = absurd (cc)
           offered (Some d) (a, reach, costs) e =
-              let same : d ≡ c = at_same (Some d) d c refl e in (
+              let same : d ≡ c = same_value (Some d) d c refl e in (
                 n,
                 goes_live zs next limit menu w n c
                     (record { move = m; there = there; rest = a; reach = reach; is = sym same ∙ costs }),
@@ -251,7 +251,7 @@ module _ (zs : List Vector) (rising : is_rising zs ≡ true) where
               (i : ℕ) × Goes zs menu next w i c
           told o here (offer, is, e) =
               from o offer here is (lesser_from o offer c
-              (at_same (slice_get lower w) (lesser o offer) (Some c) e cell))
+              (same_value (slice_get lower w) (lesser o offer) (Some c) e cell))
 
   -- after the whole menu the layer is that over the next one
   pub lowered_all : (menu : Menu) (limit : ℤ) (next layer : Layer) → IsLowered zs menu limit next (length menu) layer →

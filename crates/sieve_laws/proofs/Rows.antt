@@ -1,11 +1,11 @@
 -- The layer over one of least costs under a limit holds least costs under a limit, and the first of the moves that
 -- attain one begins the best walk.
 use Rattle.std.proofs.Common.{◌≡◌, ℕ, ◌<◌, ◌^◌, ℤ, pos, ◌+ℤ◌, ◌-ℤ◌, ◌≤ℤ◌, true, List, [], ◌∷◌, ◌++◌, length, refl, ap}
-use Rattle.std.proofs.Common.{arith, sym, ◌∙◌, Contains, Option, Some, None, subst, ◌⊎◌, inl, inr, IsTrue, All}
-use Rattle.std.proofs.Common.{append_assoc, int_le}
+use Rattle.std.proofs.Common.{arith, sym, ◌∙◌, Option, Some, None, subst, ◌⊎◌, inl, inr, IsTrue, All, append_assoc}
+use Rattle.std.proofs.Common.{int_le}
 use Rattle.std.proofs.lemmas.Int.{ints}
 use Rattle.std.proofs.lemmas.Bool.{cases_order}
-use Rattle.std.proofs.lemmas.Option.{slice_get_within, slice_get-get_or, get_or_from_slice_get}
+use Rattle.std.proofs.lemmas.Option.{slice_get_within, get_or_from_slice_get}
 use Rattle.std.specs.Prelude.{slice_get}
 use Rattle.std.specs.Ordering.{is_le}
 use Rattle.std.specs.Cmp.Lexicographic.{slice_cmp}
@@ -17,26 +17,21 @@ use Rattle.run_theory.specs.Walks.{brick_change, WalkCosts}
 use Rattle.lattice_laws.proofs.Multiples.{scale-zeros}
 use Rattle.lattice_laws.proofs.Tests.{true_or_false, int_le_true}
 use Rattle.lattice_laws.proofs.Sums.{add_zeros}
-use Rattle.walk_laws.proofs.Orders.{rising_places, first_decides, tails_decide}
+use Rattle.lattice_laws.proofs.Places.{same_value, contains_at, place_of, there_at}
+use Rattle.lattice_laws.proofs.Rising.{rising_places}
+use Rattle.walk_laws.proofs.Orders.{first_decides, tails_decide}
 use Rattle.walk_laws.proofs.Walks.{Front, front_of, walk_of}
 use Rattle.walk_laws.proofs.BestWalks.{IsLeastWalk, IsLeastRow, IsBestWalk, BeginsBest}
 use Rattle.sieve_laws.specs.declared.PricedMove.{PricedMove}
-use Rattle.sieve_laws.specs.Sieve.{Layer, Menu, IsMenu, Leads, Goes, IsAtMost, IsLayerOver, IsLayerUnder}
-use Rattle.sieve_laws.specs.Sieve.{IsFirst, MayStay, after, live}
-use Rattle.sieve_laws.proofs.Cells.{at_same, not_none, read_at}
+use Rattle.sieve_laws.specs.Sieve.{Layer, Menu, IsMenu, Leads, Goes, IsAtMost, IsLayerOver, IsLayerUnder, IsFirst}
+use Rattle.sieve_laws.specs.Sieve.{MayStay, after, live}
+use Rattle.sieve_laws.proofs.Cells.{not_none}
 use Rattle.sieve_laws.proofs.Live.{live_goes}
-
--- a listed vector stands at some place
-place_of : (vs : List Vector) (v : Vector) → Contains vs v → (j : ℕ) × (slice_get vs j ≡ Some v)
-place_of vs v (j, low, e) = (j, slice_get-get_or vs j v low ∙ ap Some e)
-
-listed : (vs : List Vector) (j : ℕ) (v : Vector) → slice_get vs j ≡ Some v → Contains vs v
-listed vs j v there = (j, slice_get_within vs j v there, get_or_from_slice_get vs j v v there)
 
 -- a cell is at most what bounds it
 cell_low : (layer : Layer) (j : ℕ) (a c : ℤ) → slice_get layer j ≡ Some (Some a) → IsAtMost layer j c → a ≤ℤ c
 cell_low layer j a c cell (b, there, low) =
-    let same : b ≡ a = at_same (Some b) b a refl (at_same (slice_get layer j) (Some b) (Some a) there cell) in
+    let same : b ≡ a = same_value (Some b) b a refl (same_value (slice_get layer j) (Some b) (Some a) there cell) in
     omega (arith, ints, same, low)
 
 -- one of two numbers is at most the other
@@ -69,7 +64,7 @@ module _ (p : Program) (phase : Phase) (zs : List Vector) (k : ℕ) (rests : Vec
     size = row.size;
     walks = λ j w c start cell. (row.cells j w (Some c) start cell).0;
     least = λ j w h c start wc low.
-        by j w h c start wc (read_at layer j (omega (arith, row.size, slice_get_within zs j w start)));
+        by j w h c start wc (there_at layer j (omega (arith, row.size, slice_get_within zs j w start)));
   }
     where
       by : (j : ℕ) (w : Vector) (h : Bricks) (c : ℤ) → slice_get zs j ≡ Some w → Costs bs x w h c →
@@ -87,7 +82,7 @@ module _ (p : Program) (phase : Phase) (zs : List Vector) (k : ℕ) (rests : Vec
           IsLeastWalk p phase zs k rests bs x w o
       cells j w None start cell = λ h c wc.
           let known = under.least j w h c start wc (most j w h c start wc) in
-          not_none (Some known.0) known.0 refl (at_same (slice_get layer j) (Some known.0) None known.1 cell)
+          not_none (Some known.0) known.0 refl (same_value (slice_get layer j) (Some known.0) None known.1 cell)
       cells j w (Some a) start cell = (
         under.walks j w a start cell,
         λ h c wc.
@@ -101,8 +96,8 @@ module _ (p : Program) (phase : Phase) (zs : List Vector) (k : ℕ) (rests : Vec
         (goes : Goes zs menu next at i c) →
         Costs bs x (add w (goes.reach.leads.by)) h goes.rest → Costs (b ∷ bs) (v ∷ x) w ((goes.reach.leads.by) ∷ h) c
     taken at i w c h start goes wc =
-        walk_of p phase zs k rests b bs v x w d h c goes.rest (listed zs goes.move.place d leads.move)
-        (listed zs goes.reach.to (add w d) end)
+        walk_of p phase zs k rests b bs v x w d h c goes.rest (contains_at zs goes.move.place d leads.move)
+        (contains_at zs goes.reach.to (add w d) end)
         (subst (λ u. IsWithin b (after k v u)) moves known.2)
         wc
         (omega (arith, ints, goes.is, known.3, ap (λ u. brick_change phase b v (after k v u)) moves))
@@ -118,10 +113,10 @@ module _ (p : Program) (phase : Phase) (zs : List Vector) (k : ℕ) (rests : Vec
         known = is_menu.sound i goes.move goes.there
 
         moves : known.0 ≡ d
-        moves = at_same (slice_get zs goes.move.place) known.0 d known.1 leads.move
+        moves = same_value (slice_get zs goes.move.place) known.0 d known.1 leads.move
 
         end : slice_get zs goes.reach.to ≡ Some (add w d)
-        end = leads.end ∙ ap (λ u. Some (add u d)) (at_same (slice_get zs at) leads.from w leads.start start)
+        end = leads.end ∙ ap (λ u. Some (add u d)) (same_value (slice_get zs at) leads.from w leads.start start)
 
     -- a move of the menu, and behind it the walk that costs what stands in the next layer
     onward : (limit : ℤ) → Under bs x limit next → (at i : ℕ) (w : Vector) (c : ℤ) → slice_get zs at ≡ Some w →
@@ -131,7 +126,8 @@ module _ (p : Program) (phase : Phase) (zs : List Vector) (k : ℕ) (rests : Vec
         let d = goes.reach.leads.by in
         let end : slice_get zs goes.reach.to ≡ Some (add w d) =
         goes.reach.leads.end
-        ∙ ap (λ u. Some (add u d)) (at_same (slice_get zs at) (goes.reach.leads.from) w (goes.reach.leads.start) start)
+        ∙ ap (λ u. Some (add u d)) (same_value (slice_get zs at) (goes.reach.leads.from) w (goes.reach.leads.start)
+        start)
         in
         let behind = under.walks goes.reach.to (add w d) goes.rest end goes.reach.cell in
         (d ∷ behind.0, taken at i w c behind.0 start goes behind.1)
@@ -196,7 +192,7 @@ module _ (p : Program) (phase : Phase) (zs : List Vector) (k : ℕ) (rests : Vec
           change =
               let known = is_menu.sound entry.0 m entry.2 in
               known.3 ∙ ap (λ u. brick_change phase b v (after k v u))
-              (at_same (slice_get zs m.place) known.0 d known.1 move)
+              (same_value (slice_get zs m.place) known.0 d known.1 move)
 
           rest_low : f.rest ≤ℤ limit
           rest_low = omega (arith, ints, enough entry.0 m entry.2, f.is, change, low)
@@ -254,7 +250,7 @@ module _ (p : Program) (phase : Phase) (zs : List Vector) (k : ℕ) (rests : Vec
         goes_of_cell at c cell low = by walk.0 walk.1
           where
             from : (w : Vector) × (slice_get zs at ≡ Some w)
-            from = read_at zs at (omega (arith, over.size, slice_get_within layer at (Some c) cell))
+            from = there_at zs at (omega (arith, over.size, slice_get_within layer at (Some c) cell))
 
             walk : (h : Bricks) × Costs (b ∷ bs) (v ∷ x) from.0 h c
             walk = over.walks at from.0 c from.1 cell
@@ -292,10 +288,10 @@ module _ (p : Program) (phase : Phase) (zs : List Vector) (k : ℕ) (rests : Vec
                 by : (i ≡ o.i) ⊎ ((i < o.i) ⊎ (o.i < i)) → IsTrue (is_le (slice_cmp lex_cmp (d ∷ h) (e ∷ g)))
                 by (inl same) =
                     let moves : first.goes.move ≡ (o.goes.1).move =
-                    at_same (slice_get menu o.i) (first.goes.move) ((o.goes.1).move) (ap (slice_get menu) (sym same)
+                    same_value (slice_get menu o.i) (first.goes.move) ((o.goes.1).move) (ap (slice_get menu) (sym same)
                     ∙ first.goes.there) ((o.goes.1).there) in
                     let heads : d ≡ e =
-                    at_same (slice_get zs ((o.goes.1).move).place) d e
+                    same_value (slice_get zs ((o.goes.1).move).place) d e
                     (ap (λ (m : PricedMove). slice_get zs m.place) (sym moves) ∙ first.goes.reach.leads.move) o.move
                     in
                     let changes : (first.goes.move).change ≡ ((o.goes.1).move).change =
@@ -332,7 +328,7 @@ module _ (p : Program) (phase : Phase) (zs : List Vector) (k : ℕ) (rests : Vec
 
 -- ---- a brick may stay where it is
 
-no_change : (phase : Phase) (b : Brick) (v : Vector) → brick_change phase b v v ≡ pos 0
+pub no_change : (phase : Phase) (b : Brick) (v : Vector) → brick_change phase b v v ≡ pos 0
 no_change Closed b v = omega (arith, ints)
 no_change Counted b v = refl
 
@@ -351,7 +347,7 @@ may_stay phase zs k t b v menu next place is_menu there widths size within all w
     entry = is_menu.complete place (zeros t) there (subst (IsWithin b) (sym still) within)
 
     from : (u : Vector) × (slice_get zs w ≡ Some u)
-    from = read_at zs w (omega (arith, all, slice_get_within next w (Some c) cell))
+    from = there_at zs w (omega (arith, all, slice_get_within next w (Some c) cell))
 
     width : length from.0 ≡ t
     width = sym (ap length (get_or_from_slice_get zs w from.0 from.0 from.1))
@@ -363,7 +359,7 @@ may_stay phase zs k t b v menu next place is_menu there widths size within all w
     free : (entry.1).change ≡ pos 0
     free =
         let known = is_menu.sound entry.0 entry.1 entry.2 in
-        let moves : known.0 ≡ zeros t = at_same (slice_get zs (entry.1).place) known.0 (zeros t) known.1 move in
+        let moves : known.0 ≡ zeros t = same_value (slice_get zs (entry.1).place) known.0 (zeros t) known.1 move in
         known.3 ∙ ap (λ u. brick_change phase b v (after k v u)) moves ∙ ap (brick_change phase b v) still
         ∙ no_change phase b v
 

@@ -1,6 +1,6 @@
 -- Bounds on how much a sum costs above what a move reaches from there, and when a move is idle.
-use Rattle.std.proofs.Common.{◌≡◌, ℕ, ◌+◌, ◌<◌, ◌≤◌, ℤ, true, ◌+ℤ◌, ◌-ℤ◌, ◌≤ℤ◌, List, length, refl, ap, arith}
-use Rattle.std.proofs.Common.{sym, ◌∙◌, Option, Some, None, subst, ◌⊎◌, inl, inr}
+use Rattle.std.proofs.Common.{◌≡◌, ℕ, ◌+◌, ◌<◌, ◌≤◌, ℤ, true, ◌+ℤ◌, ◌-ℤ◌, ◌≤ℤ◌, List, length, refl, ap, arith, sym, ◌∙◌}
+use Rattle.std.proofs.Common.{Option, Some, None, subst, ◌⊎◌, inl, inr}
 use Rattle.std.proofs.lemmas.Int.{ints}
 use Rattle.std.proofs.lemmas.Bool.{cases_lt, cases_order}
 use Rattle.std.proofs.lemmas.List.{length-set}
@@ -8,9 +8,10 @@ use Rattle.std.proofs.Math.ListN.{set}
 use Rattle.std.proofs.lemmas.Option.{slice_get_within}
 use Rattle.std.specs.Prelude.{slice_get}
 use Rattle.lattice_theory.specs.Vectors.{Vector, is_rising}
+use Rattle.lattice_laws.proofs.Places.{same_value}
 use Rattle.sieve_laws.specs.declared.PricedMove.{PricedMove}
 use Rattle.sieve_laws.specs.Sieve.{Layer, Reaches, IsAtMost, IsIdle, IsTop, AreTops, live}
-use Rattle.sieve_laws.proofs.Cells.{at_same, not_none, slice_get-set_same, slice_get-set_other}
+use Rattle.sieve_laws.proofs.Cells.{not_none, slice_get-set_same, slice_get-set_other}
 use Rattle.sieve_laws.proofs.Live.{live_size, reaches_less}
 use Rattle.sieve_laws.proofs.Lowering.{reaches_once}
 
@@ -88,7 +89,7 @@ module _ (zs : List Vector) (from next : Layer) where
           ap (slice_get (set tops h found)) (sym same) ∙ there in
           let set_here : slice_get (set tops h found) h ≡ Some found = slice_get-set_same tops h found low in
           subst (λ j. IsTop zs from next j top) (sym same)
-          (new top (at_same (slice_get (set tops h found) h) found (Some top) set_here here))
+          (new top (same_value (slice_get (set tops h found) h) found (Some top) set_here here))
       by i top there (inr (inl before)) =
           are.each i top (sym (slice_get-set_other tops h i found (λ e. omega (arith, before, e))) ∙ there)
       by i top there (inr (inr behind)) =
@@ -134,13 +135,13 @@ module _ (next layer : Layer) where
   -- a cell that was not there
   pub least_new : (least : ℤ) (n : ℕ) → slice_get next n ≡ Some None → FallsLeast least n → FallsLeast least (n + 1)
   least_new least n none so_far = least_last least n so_far (λ b a before now.
-      not_none (Some b) b refl (at_same (slice_get next n) (Some b) None before none))
+      not_none (Some b) b refl (same_value (slice_get next n) (Some b) None before none))
 
   -- one that is not there
   pub least_empty : (least : ℤ) (n : ℕ) → slice_get layer n ≡ Some None → FallsLeast least n →
       FallsLeast least (n + 1)
   least_empty least n none so_far = least_last least n so_far (λ b a before now.
-      not_none (Some a) a refl (at_same (slice_get layer n) (Some a) None now none))
+      not_none (Some a) a refl (same_value (slice_get layer n) (Some a) None now none))
 
   -- one that fell from b to a
   pub least_more : (least less : ℤ) (n : ℕ) (b a : ℤ) → slice_get next n ≡ Some (Some b) →
@@ -151,8 +152,10 @@ module _ (next layer : Layer) where
     where
       last : (c e : ℤ) → slice_get next n ≡ Some (Some c) → slice_get layer n ≡ Some (Some e) → less ≤ℤ (c -ℤ e)
       last c e before now =
-          let first : b ≡ c = at_same (Some b) b c refl (at_same (slice_get next n) (Some b) (Some c) here before) in
-          let second : a ≡ e = at_same (Some a) a e refl (at_same (slice_get layer n) (Some a) (Some e) there now) in
+          let first : b ≡ c = same_value (Some b) b c refl (same_value (slice_get next n) (Some b) (Some c) here
+          before) in
+          let second : a ≡ e = same_value (Some a) a e refl (same_value (slice_get layer n) (Some a) (Some e) there
+          now) in
           omega (arith, ints, low, first, second)
 
   pub most_none : (limit most : ℤ) → FallsMost limit most 0
@@ -175,7 +178,7 @@ module _ (next layer : Layer) where
   pub most_dead : (limit most : ℤ) (n : ℕ) → slice_get (live limit layer) n ≡ Some None → FallsMost limit most n →
       FallsMost limit most (n + 1)
   most_dead limit most n none so_far = most_last limit most n so_far (λ a there.
-      not_none (Some a) a refl (at_same (slice_get (live limit layer) n) (Some a) None there none))
+      not_none (Some a) a refl (same_value (slice_get (live limit layer) n) (Some a) None there none))
 
   -- a live one that fell from b to a
   pub most_more : (limit most more : ℤ) (n : ℕ) (b a : ℤ) → slice_get (live limit next) n ≡ Some (Some b) →
@@ -192,7 +195,7 @@ module _ (next layer : Layer) where
           (c : ℤ) × (slice_get (live limit next) n ≡ Some (Some c)) × ((c -ℤ e) ≤ℤ more)
       last e there =
           let same : a ≡ e =
-          at_same (Some a) a e refl (at_same (slice_get (live limit layer) n) (Some a) (Some e) here there) in
+          same_value (Some a) a e refl (same_value (slice_get (live limit layer) n) (Some a) (Some e) here there) in
           (b, before, omega (arith, ints, high, same))
 
   -- where no cell rose or went, a bound over the next layer and the spread of the falls are a bound over the layer

@@ -1,6 +1,6 @@
 -- Layers of least costs over lists of sums, the moves of a brick between them, and what a layer is over the next one.
-use Rattle.std.specs.Prelude.{◌≡◌, ℕ, ◌^◌, ◌<◌, ℤ, pos, ◌+ℤ◌, ◌≤ℤ◌, int_le, cond, List, length, map, Option}
-use Rattle.std.specs.Prelude.{Some, None, slice_get}
+use Rattle.std.specs.Prelude.{◌≡◌, ℕ, ◌^◌, ◌<◌, ℤ, pos, ◌+ℤ◌, ◌≤ℤ◌, int_le, cond, List, length, map, Option, Some, None}
+use Rattle.std.specs.Prelude.{slice_get}
 use Rattle.std.specs.Int.{int_min}
 use Rattle.fold_theory.specs.declared.Phase.{Phase}
 use Rattle.lattice_theory.specs.Vectors.{Vector, add, scale}

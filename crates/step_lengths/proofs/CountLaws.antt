@@ -26,11 +26,13 @@ below_top n before j top k = (
 -- 2 ^ k is at most n for as many k as n has binary digits
 below_digits : (n : ℕ) → 0 < n → n < 2 ^ 64 → (k : ℕ) → (k < 64 - count_leading_zeros 64 n) ↔ (2 ^ k ≤ n)
 below_digits n above small k =
-    let top : (j : ℕ) × (count_leading_zeros 64 n + suc j ≡ 64) × (2 ^ j ≤ n) × (n < 2 ^ suc j) = leading_top 64 n above small in
+    let top : (j : ℕ) × (count_leading_zeros 64 n + suc j ≡ 64) × (2 ^ j ≤ n) × (n < 2 ^ suc j) =
+    leading_top 64 n above small in
     below_top n (count_leading_zeros 64 n) top.0 (top.1, top.2, top.3) k
 
 -- so the digits of the range, or of 1, count its lengths
-pub length_count : (range n : ℕ) → n ≡ max 1 range → range ≤ 2 ^ 63 → IsLengthCount range (64 - count_leading_zeros 64 n)
+pub length_count : (range n : ℕ) → n ≡ max 1 range → range ≤ 2 ^ 63 →
+    IsLengthCount range (64 - count_leading_zeros 64 n)
 length_count range n is small k =
     let above : 0 < n = omega (arith, is) in
     let fits : n < 2 ^ 64 = omega (arith, is, small) in

@@ -1,3 +1,2 @@
 pub mod BoundLaws
-pub mod ImageLaws
 mod KnownValues

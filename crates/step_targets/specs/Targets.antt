@@ -14,4 +14,5 @@ AreBetween lower upper v = AllZip ◌≤ℤ◌ lower v × AllZip ◌≤ℤ◌ v 
 
 -- the answer is this vector where it is within the bounds, and none where it is not
 abbrev pub Leads : Vector → Vector → Vector → Option (Vec ℤ Global) → Type 0
-Leads lower upper end result = MatchOption result (AreBetween lower upper end → ⊥) (λ v. AreBetween lower upper end × (v.items ≡ end))
+Leads lower upper end result = MatchOption result (AreBetween lower upper end → ⊥) (λ v. AreBetween lower upper end
+    × (v.items ≡ end))

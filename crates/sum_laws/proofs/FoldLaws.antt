@@ -1,12 +1,12 @@
 -- The width of brick sums and the size of their images.
-use Rattle.std.proofs.Common.{◌≡◌, ℕ, zero, suc, ◌+◌, ◌-◌, ◌*◌, ◌^◌, ◌<◌, ◌≤◌, ℤ, unsigned_abs, Bool, true, false, List, [], ◌∷◌, length, ap, arith, sym, ◌∙◌, subst, All, inl, inr}
+use Rattle.std.proofs.Common.{◌≡◌, ℕ, zero, suc, ◌-◌, ◌*◌, ◌^◌, ◌≤◌, unsigned_abs, false, List, [], ◌∷◌, length, arith}
+use Rattle.std.proofs.Common.{All}
 use Rattle.std.proofs.lemmas.List.Elements.{All-map, All-weaker, All-from_recursion}
-use Rattle.lattice_theory.specs.Vectors.{Vector, is_zero, norm1}
+use Rattle.lattice_theory.specs.Vectors.{Vector, is_zero}
 use Rattle.lattice_theory.specs.BasisLimits.{IsNarrow}
 use Rattle.lattice_theory.specs.SignedSums.{Sum, IsSignedSum, HasLevel, AreSums, vectors}
 use Rattle.lattice_theory.specs.Matrices.{product}
-use Rattle.lattice_laws.proofs.Tests.{true_or_false}
-use Rattle.lattice_laws.proofs.Conformal.{norm_of_zero}
+use Rattle.lattice_laws.proofs.Conformal.{nonzero_of_norm}
 use Rattle.fold_theory.specs.declared.Phase.{Phase}
 use Rattle.fold_theory.specs.Programs.{Program}
 use Rattle.run_theory.specs.Links.{Bases, AreBases, generators, links_of, fold_complexity}
@@ -20,12 +20,6 @@ use Rattle.graver_complexity.proofs.SizeLaws.{IsSignedSum-entries, IsSignedSum-i
 
 -- ---- generators
 
-nonzero : (v : Vector) → 0 < norm1 v → is_zero v ≡ false
-nonzero v some = elim (true_or_false (is_zero v)) [
-  | inl none ↦ absurd (omega (arith, some, norm_of_zero v none))
-  | inr other ↦ other
-]
-
 module _ (p : Program) (b : Bases) (bases : AreBases p b) where
   abbrev gens : List Vector
   gens = generators p b.brick
@@ -34,18 +28,21 @@ module _ (p : Program) (b : Bases) (bases : AreBases p b) where
   t = p.brick.cols
 
   each : All (IsGenerator p.brick) gens
-  each = All-from_recursion (IsGenerator p.brick) gens (complete_generators p.brick b.brick (slack_basis_complete p.brick b.brick bases.brick))
+  each = All-from_recursion (IsGenerator p.brick) gens (complete_generators p.brick b.brick
+      (slack_basis_complete p.brick b.brick bases.brick))
 
   even : All (λ e. length e ≡ t) gens
   even = All-weaker (IsGenerator p.brick) (λ e. length e ≡ t) (λ e g. g.size) gens each
 
   sized : All (λ e. (length e ≡ t) × (is_zero e ≡ false)) gens
-  sized = All-weaker (IsGenerator p.brick) (λ e. (length e ≡ t) × (is_zero e ≡ false)) (λ e g. (g.size, nonzero e g.nonzero)) gens each
+  sized = All-weaker (IsGenerator p.brick) (λ e. (length e ≡ t) × (is_zero e ≡ false))
+      (λ e g. (g.size, nonzero_of_norm e g.nonzero)) gens each
 
   -- ---- levels
 
   -- where there are few sums, each is a sum of few generators
-  few_levels : (gs : List Vector) (g : ℕ) (sums : List Sum) (s : Sum) → All (λ e. (length e ≡ t) × (is_zero e ≡ false)) gs → AreSums t gs g sums →
+  few_levels : (gs : List Vector) (g : ℕ) (sums : List Sum) (s : Sum) →
+      All (λ e. (length e ≡ t) × (is_zero e ≡ false)) gs → AreSums t gs g sums →
       length sums ≤ 20000 → s.level ≤ g → HasLevel t gs s → s.level ≤ 9999
   few_levels [] g sums s fit are few low has = none s.level has.reached
     where
@@ -66,17 +63,20 @@ module _ (p : Program) (b : Bases) (bases : AreBases p b) where
     pub sums_wide : All (λ w. length w ≡ t) (vectors sums)
     sums_wide =
         All-map (λ w. length w ≡ t) (λ (s : Sum). s.vector) sums
-        (All-weaker IsSumOf (λ (s : Sum). length s.vector ≡ t) (λ s is. IsSignedSum-width t gens even s.level s.vector is.1.reached) sums are.sound)
+        (All-weaker IsSumOf (λ (s : Sum). length s.vector ≡ t) (λ s is. IsSignedSum-width t gens even s.level s.vector
+        is.1.reached) sums are.sound)
 
     -- and its image is small
     pub sums_small : All IsNarrow (links_of p b.brick).rows → length sums ≤ 20000 → All (IsSmallImage p) (vectors sums)
     sums_small narrow few =
-        All-map (IsSmallImage p) (λ (s : Sum). s.vector) sums (All-weaker IsSumOf (λ (s : Sum). IsSmallImage p s.vector) small sums are.sound)
+        All-map (IsSmallImage p) (λ (s : Sum). s.vector) sums (All-weaker IsSumOf (λ (s : Sum). IsSmallImage p s.vector)
+        small sums are.sound)
       where
         small : (s : Sum) → IsSumOf s → IsSmallImage p s.vector
         small s is =
             let low : s.level ≤ 9999 = few_levels gens g sums s sized are few is.0 is.1 in
-            All-weaker (λ a. unsigned_abs a ≤ s.level * (2 ^ 31 - 1)) (λ a. unsigned_abs a ≤ 2 ^ 50) (λ a most. omega (arith, low, most)) (product p.link s.vector)
+            All-weaker (λ a. unsigned_abs a ≤ s.level * (2 ^ 31 - 1)) (λ a. unsigned_abs a ≤ 2 ^ 50)
+            (λ a most. omega (arith, low, most)) (product p.link s.vector)
             (IsSignedSum-images t s.level p.link gens s.vector even narrow is.1.reached)
 
     -- and so are its entries
@@ -88,5 +88,6 @@ module _ (p : Program) (b : Bases) (bases : AreBases p b) where
         small : (s : Sum) → IsSumOf s → All (λ a. unsigned_abs a ≤ 2 ^ 47) s.vector
         small s is =
             let low : s.level ≤ 9999 = few_levels gens g sums s sized are few is.0 is.1 in
-            All-weaker (λ a. unsigned_abs a ≤ s.level * (2 ^ 31 - 1)) (λ a. unsigned_abs a ≤ 2 ^ 47) (λ a most. omega (arith, low, most)) s.vector
+            All-weaker (λ a. unsigned_abs a ≤ s.level * (2 ^ 31 - 1)) (λ a. unsigned_abs a ≤ 2 ^ 47)
+            (λ a most. omega (arith, low, most)) s.vector
             (IsSignedSum-entries t s.level gens s.vector narrow is.1.reached)

@@ -5,21 +5,15 @@ use Rattle.std.proofs.Common.{◌&&◌, List, length, map, refl, arith, sym, Con
 use Rattle.std.specs.Prelude.{flat_map}
 use Rattle.std.specs.List.{All, list_all, filter}
 use Rattle.std.proofs.lemmas.List.Elements.{All-contains}
-use Rattle.std.proofs.lemmas.Map.Views.{Contains-from_any}
 use Rattle.lattice_theory.specs.Lists.{numbers_from}
-use Rattle.lattice_theory.specs.Vectors.{Vector, is_listed, is_rising, same, add, sub}
+use Rattle.lattice_theory.specs.Vectors.{Vector, is_listed, is_rising, add, sub}
 use Rattle.lattice_theory.specs.Lattices.{kernel}
 use Rattle.lattice_theory.specs.SignedSums.{IsSignedSum}
-use Rattle.lattice_laws.proofs.Tests.{and_true, same_true}
-use Rattle.lattice_laws.proofs.Members.{list_all_at}
+use Rattle.lattice_laws.proofs.Tests.{and_true}
+use Rattle.lattice_laws.proofs.Members.{list_all_at, listed_member}
 use Rattle.lattice_laws.proofs.Rising.{rising_length}
 use Rattle.lattice_theory.proofs.KnownValues.{three}
 use Rattle.run_theory.proofs.KnownValues.{supplier_basis}
-
--- ---- listed vectors
-
-listed : (vs : List Vector) (v : Vector) → is_listed vs v ≡ true → Contains vs v
-listed vs v passes = Contains-from_any {eq = λ q u. same u q} (λ x y p. sym (same_true y x p)) v vs passes
 
 -- ---- the layers
 
@@ -76,13 +70,13 @@ step vs ws leads v e w from by_one sum =
     (list_all_at next vs v leads from) by_one in
     let tests = and_true (is_listed ws (add v e)) (is_listed ws (sub v e)) both in
     elim sum [
-      | inl is ↦ subst (Contains ws) (sym is) (listed ws (add v e) tests.0)
-      | inr is ↦ subst (Contains ws) (sym is) (listed ws (sub v e) tests.1)
+      | inl is ↦ subst (Contains ws) (sym is) (listed_member ws (add v e) tests.0)
+      | inr is ↦ subst (Contains ws) (sym is) (listed_member ws (sub v e) tests.1)
     ]
 
 inside : (vs : List Vector) → list_all (is_listed (layer 3)) vs ≡ true → (w : Vector) → Contains vs w →
     Contains (layer 3) w
-inside vs passes w c = listed (layer 3) w (list_all_at (is_listed (layer 3)) vs w passes c)
+inside vs passes w c = listed_member (layer 3) w (list_all_at (is_listed (layer 3)) vs w passes c)
 
 none_in : (w : Vector) → IsSignedSum 3 gens 0 w → Contains (layer 0) w
 none_in w is = subst (Contains (layer 0)) (sym is) (0, omega arith, refl)

@@ -1,6 +1,7 @@
 -- The best walk through all layers is the best step of its length, where it lowers the cost, and else no step of that
 -- length does.
-use Rattle.std.proofs.Common.{◌≡◌, ℕ, ℤ, pos, ◌-ℤ◌, ◌≤ℤ◌, ◌<ℤ◌, Bool, true, false, List, length, refl, ap, arith, ◌∙◌, Option, Some, None, subst, All, IsTrue, int_lt, get_or, ◌⊎◌, inl, inr}
+use Rattle.std.proofs.Common.{◌≡◌, ℕ, ℤ, pos, ◌-ℤ◌, ◌≤ℤ◌, ◌<ℤ◌, Bool, true, false, List, length, refl, ap, arith, ◌∙◌}
+use Rattle.std.proofs.Common.{Option, Some, None, subst, All, IsTrue, int_lt, get_or, ◌⊎◌, inl, inr}
 use Rattle.std.proofs.lemmas.Int.{ints}
 use Rattle.std.proofs.lemmas.Bool.Decides.{nat_tests}
 use Rattle.std.proofs.lemmas.List.Elements.{All-contains}
@@ -35,8 +36,10 @@ less_or_same a b low = by (int_lt a b) refl
 decided_first : (a b c : Ordering) → a ≡ Less → IsTrue (is_le (ordering_then a (ordering_then b c)))
 decided_first a b c e = ap (λ o. is_le (ordering_then o (ordering_then b c))) e
 
-decided_last : (a b c : Ordering) → a ≡ Equal → b ≡ Equal → IsTrue (is_le c) → IsTrue (is_le (ordering_then a (ordering_then b c)))
-decided_last a b c e f h = ap (λ o. is_le (ordering_then o (ordering_then b c))) e ∙ ap (λ o. is_le (ordering_then o c)) f ∙ h
+decided_last : (a b c : Ordering) → a ≡ Equal → b ≡ Equal → IsTrue (is_le c) →
+    IsTrue (is_le (ordering_then a (ordering_then b c)))
+decided_last a b c e f h = ap (λ o. is_le (ordering_then o (ordering_then b c))) e
+    ∙ ap (λ o. is_le (ordering_then o c)) f ∙ h
 
 module _ (p : Program) (phase : Phase) (zs : List Vector) (k : ℕ) (x : Bricks)
     (wx : All (λ v. length v ≡ p.brick.cols) x) (widths : All (λ z. length z ≡ p.brick.cols) zs) where
@@ -85,9 +88,12 @@ module _ (p : Program) (phase : Phase) (zs : List Vector) (k : ℕ) (x : Bricks)
       moves (inr e) = e
 
   -- and the best walk is the first step of its length
-  pub best_is_first : (h : Bricks) (c : ℤ) → IsBestWalk p phase zs k (link_rests p x) p.bricks x (zeros p.brick.cols) h c →
-      (g : Bricks) → Augments p phase zs x k g → IsTrue (is_le (rule_cmp p phase x (record { k = k; bricks = h }) (record { k = k; bricks = g })))
-  best_is_first h c best g a = by (less_or_same (phase_cost p phase (moved x k h)) (phase_cost p phase (moved x k g)) after)
+  pub best_is_first : (h : Bricks) (c : ℤ) → IsBestWalk p phase zs k (link_rests p x) p.bricks x (zeros p.brick.cols) h
+      c →
+      (g : Bricks) → Augments p phase zs x k g →
+      IsTrue (is_le (rule_cmp p phase x (record { k = k; bricks = h }) (record { k = k; bricks = g })))
+  best_is_first h c best g a = by (less_or_same (phase_cost p phase (moved x k h)) (phase_cost p phase (moved x k g))
+      after)
     where
       low : c ≤ℤ change g
       low = best.least g (change g) (walks g a.candidate)
@@ -105,7 +111,8 @@ module _ (p : Program) (phase : Phase) (zs : List Vector) (k : ℕ) (x : Bricks)
       by (inl less) = decided_first _ (nat_cmp k k) (slice_cmp lex_cmp h g) less
       by (inr same) =
           let costs : change g ≡ c = omega (arith, ints, same.1, is) in
-          decided_last _ (nat_cmp k k) (slice_cmp lex_cmp h g) same.0 (same_length k) (best.first g (subst (λ e. Walks g e) costs (walks g a.candidate)))
+          decided_last _ (nat_cmp k k) (slice_cmp lex_cmp h g) same.0 (same_length k)
+          (best.first g (subst (λ e. Walks g e) costs (walks g a.candidate)))
 
   -- its gain is what the walk lowers the cost by
   pub gain_is : (h : Bricks) (c : ℤ) → Walks h c → gain p phase x k h ≡ pos 0 -ℤ c

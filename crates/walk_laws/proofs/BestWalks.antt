@@ -1,6 +1,8 @@
 -- Least and best walks, layer by layer from the last one back: what the offers of a layer are, and that the first of
 -- the least ones begins the best walk.
-use Rattle.std.proofs.Common.{◌≡◌, ℕ, ◌<◌, ◌^◌, ℤ, pos, ◌+ℤ◌, ◌-ℤ◌, ◌≤ℤ◌, ◌<ℤ◌, true, List, [], ◌∷◌, ◌++◌, length, refl, ap, arith, sym, ◌∙◌, Contains, Option, Some, None, subst, ◌⊎◌, inl, inr, IsTrue, All, get_or, append_assoc}
+use Rattle.std.proofs.Common.{◌≡◌, ℕ, ◌<◌, ◌^◌, ℤ, pos, ◌+ℤ◌, ◌-ℤ◌, ◌≤ℤ◌, ◌<ℤ◌, true, List, [], ◌∷◌, ◌++◌, length, refl}
+use Rattle.std.proofs.Common.{ap, arith, sym, ◌∙◌, Contains, Option, Some, None, subst, ◌⊎◌, inl, inr, IsTrue, All}
+use Rattle.std.proofs.Common.{get_or, append_assoc}
 use Rattle.std.proofs.lemmas.Int.{ints}
 use Rattle.std.proofs.lemmas.Bool.{cases_order}
 use Rattle.std.proofs.lemmas.Option.{slice_get_within, slice_get-get_or, get_or_from_slice_get}
@@ -12,9 +14,10 @@ use Rattle.fold_theory.specs.declared.Phase.{Phase}
 use Rattle.lattice_theory.specs.Vectors.{Vector, lex_cmp, lex_less, is_rising, add, sub, scale}
 use Rattle.lattice_theory.specs.Matrices.{product}
 use Rattle.lattice_laws.proofs.Conformal.{add_sub}
+use Rattle.lattice_laws.proofs.Rising.{rising_places}
 use Rattle.fold_theory.specs.Programs.{Program, Brick, Bricks, IsWithin}
 use Rattle.run_theory.specs.Walks.{brick_change, end_cost, WalkCosts}
-use Rattle.walk_laws.proofs.Orders.{lex_cmp-sub, rising_places, first_decides, tails_decide}
+use Rattle.walk_laws.proofs.Orders.{lex_cmp-sub, first_decides, tails_decide}
 use Rattle.walk_laws.proofs.Walks.{there, Front, front_of, walk_of, walk_none}
 
 -- a vector less w, after w
@@ -64,7 +67,8 @@ module _ (p : Program) (phase : Phase) (zs : List Vector) (k : ℕ) (rests : Vec
   -- the cells of a layer are the least costs of walks from its sums
   pub record IsLeastRow (bs : List Brick) (x : Bricks) (row : List (Option ℤ)) : Type 0 where
     pub size : length row ≡ length zs
-    pub cells : (j : ℕ) (w : Vector) (o : Option ℤ) → slice_get zs j ≡ Some w → slice_get row j ≡ Some o → IsLeastWalk bs x w o
+    pub cells : (j : ℕ) (w : Vector) (o : Option ℤ) → slice_get zs j ≡ Some w → slice_get row j ≡ Some o →
+        IsLeastWalk bs x w o
 
   -- a move from w to the sum at place j, and the least walk after it, cost c
   pub record Offers (b : Brick) (v w : Vector) (row : List (Option ℤ)) (j : ℕ) (c : ℤ) : Type 0 where
@@ -89,7 +93,8 @@ module _ (p : Program) (phase : Phase) (zs : List Vector) (k : ℕ) (rests : Vec
 
   module _ (t : ℕ) (widths : All (λ z. length z ≡ t) zs) where
     -- what a walk's first move offers: at the place of its sum a cost that is at most its own
-    record Offered (b : Brick) (bs : List Brick) (v : Vector) (x : Bricks) (w d : Vector) (h : Bricks) (row : List (Option ℤ)) (c : ℤ) : Type 0 where
+    record Offered (b : Brick) (bs : List Brick) (v : Vector) (x : Bricks) (w d : Vector) (h : Bricks)
+        (row : List (Option ℤ)) (c : ℤ) : Type 0 where
       place : ℕ
       low : place < length zs
       cost : ℤ
@@ -101,7 +106,8 @@ module _ (p : Program) (phase : Phase) (zs : List Vector) (k : ℕ) (rests : Vec
       above : offer.rest ≤ℤ rest
       is : c ≡ (brick_change phase b v (there p phase zs k rests v d) +ℤ rest)
 
-    offered : (b : Brick) (bs : List Brick) (v : Vector) (x : Bricks) (w d : Vector) (h : Bricks) (row : List (Option ℤ)) (c : ℤ) →
+    offered : (b : Brick) (bs : List Brick) (v : Vector) (x : Bricks) (w d : Vector) (h : Bricks)
+        (row : List (Option ℤ)) (c : ℤ) →
         length w ≡ t → IsLeastRow bs x row → Costs (b ∷ bs) (v ∷ x) w (d ∷ h) c → Offered b bs v x w d h row c
     offered b bs v x w d h row c size least wc = by (cell_at row (length zs) at.0 least.size at.1)
       where
@@ -140,13 +146,20 @@ module _ (p : Program) (phase : Phase) (zs : List Vector) (k : ℕ) (rests : Vec
             }
 
     -- an offer is the begin of a walk
-    taken : (b : Brick) (bs : List Brick) (v : Vector) (x : Bricks) (w : Vector) (row : List (Option ℤ)) (j : ℕ) (c : ℤ) (h : Bricks) →
-        length w ≡ t → (o : Offers b v w row j c) → Costs bs x o.sum h o.rest → Costs (b ∷ bs) (v ∷ x) w (sub o.sum w ∷ h) c
+    taken : (b : Brick) (bs : List Brick) (v : Vector) (x : Bricks) (w : Vector) (row : List (Option ℤ)) (j : ℕ) (c : ℤ)
+        (h : Bricks) →
+        length w ≡ t → (o : Offers b v w row j c) → Costs bs x o.sum h o.rest →
+        Costs (b ∷ bs) (v ∷ x) w (sub o.sum w ∷ h) c
     taken b bs v x w row j c h size o wc =
         let width : length o.sum ≡ t =
-        sym (ap length (get_or_from_slice_get zs j o.sum o.sum o.listed)) ∙ widths j o.sum (slice_get_within zs j o.sum o.listed) in
+        sym (ap length (get_or_from_slice_get zs j o.sum o.sum o.listed))
+        ∙ widths j o.sum (slice_get_within zs j o.sum o.listed) in
         let forward : add w (sub o.sum w) ≡ o.sum = add_sub w o.sum (size ∙ sym width) in
-        let listed : Contains zs o.sum = (j, slice_get_within zs j o.sum o.listed, get_or_from_slice_get zs j o.sum o.sum o.listed) in
+        let listed : Contains zs o.sum = (
+          j,
+          slice_get_within zs j o.sum o.listed,
+          get_or_from_slice_get zs j o.sum o.sum o.listed,
+        ) in
         walk_of p phase zs k rests b bs v x w (sub o.sum w) h c o.rest o.move
         (subst (λ z. Contains zs z) (sym forward) listed)
         o.within
@@ -165,8 +178,10 @@ module _ (p : Program) (phase : Phase) (zs : List Vector) (k : ℕ) (rests : Vec
             none o.place o.cost o.low o.offer
 
     -- the least offer is the least cost of a walk
-    pub least_some : (b : Brick) (bs : List Brick) (v : Vector) (x : Bricks) (w : Vector) (row : List (Option ℤ)) (c : ℤ) (j : ℕ) →
-        length w ≡ t → IsLeastRow bs x row → IsChoice b v w row (length zs) c j → IsLeastWalk (b ∷ bs) (v ∷ x) w (Some c)
+    pub least_some : (b : Brick) (bs : List Brick) (v : Vector) (x : Bricks) (w : Vector) (row : List (Option ℤ))
+        (c : ℤ) (j : ℕ) →
+        length w ≡ t → IsLeastRow bs x row → IsChoice b v w row (length zs) c j →
+        IsLeastWalk (b ∷ bs) (v ∷ x) w (Some c)
     least_some b bs v x w row c j size least choice = (there_is, walks)
       where
         rest : (h : Bricks) × Costs bs x (choice.offer.sum) h (choice.offer.rest)
@@ -183,9 +198,11 @@ module _ (p : Program) (phase : Phase) (zs : List Vector) (k : ℕ) (rests : Vec
             omega (arith, ints, low, o.most)
 
     -- the first of the least offers, and then the best walk after it, is the best walk
-    pub best_more : (b : Brick) (bs : List Brick) (v : Vector) (x : Bricks) (w : Vector) (row : List (Option ℤ)) (c : ℤ) (j : ℕ) (h : Bricks) →
+    pub best_more : (b : Brick) (bs : List Brick) (v : Vector) (x : Bricks) (w : Vector) (row : List (Option ℤ)) (c : ℤ)
+        (j : ℕ) (h : Bricks) →
         length w ≡ t → is_rising zs ≡ true → IsLeastRow bs x row → (choice : IsChoice b v w row (length zs) c j) →
-        IsBestWalk bs x choice.offer.sum h choice.offer.rest → IsBestWalk (b ∷ bs) (v ∷ x) w (sub choice.offer.sum w ∷ h) c
+        IsBestWalk bs x choice.offer.sum h choice.offer.rest →
+        IsBestWalk (b ∷ bs) (v ∷ x) w (sub choice.offer.sum w ∷ h) c
     best_more b bs v x w row c j h size rising least choice best = record {
       walk = taken b bs v x w row j c h size choice.offer best.walk;
       least = (least_some b bs v x w row c j size least choice).1;
@@ -203,33 +220,44 @@ module _ (p : Program) (phase : Phase) (zs : List Vector) (k : ℕ) (rests : Vec
             o = offered b bs v x w d g row c size least wc
 
             width : (i : ℕ) (z : Vector) → slice_get zs i ≡ Some z → length z ≡ length w
-            width i z e = sym (ap length (get_or_from_slice_get zs i z z e)) ∙ widths i z (slice_get_within zs i z e) ∙ sym size
+            width i z e = sym (ap length (get_or_from_slice_get zs i z z e)) ∙ widths i z (slice_get_within zs i z e)
+                ∙ sym size
 
             back : sub (add w d) w ≡ d
-            back = sub_add w d (All-contains (λ z. length z ≡ t) zs d widths (front_of p phase zs k rests b bs v x w d g c wc).move ∙ sym size)
+            back = sub_add w d (All-contains (λ z. length z ≡ t) zs d widths
+                (front_of p phase zs k rests b bs v x w d g c wc).move ∙ sym size)
 
-            by : (j ≡ o.place) ⊎ ((j < o.place) ⊎ (o.place < j)) → IsTrue (is_le (slice_cmp lex_cmp (sub s w ∷ h) (d ∷ g)))
+            by : (j ≡ o.place) ⊎ ((j < o.place) ⊎ (o.place < j)) →
+                IsTrue (is_le (slice_cmp lex_cmp (sub s w ∷ h) (d ∷ g)))
             by (inl same) =
-                let sums : s ≡ add w d = same_some (slice_get zs j) s (add w d) choice.offer.listed (ap (slice_get zs) same ∙ o.offer.listed ∙ ap Some o.sum_is) in
+                let sums : s ≡ add w d = same_some (slice_get zs j) s (add w d) choice.offer.listed
+                (ap (slice_get zs) same ∙ o.offer.listed ∙ ap Some o.sum_is) in
                 let cells : choice.offer.rest ≡ o.offer.rest =
-                same_some_cell (slice_get row j) choice.offer.rest o.offer.rest choice.offer.cell (ap (slice_get row) same ∙ o.offer.cell) in
+                same_some_cell (slice_get row j) choice.offer.rest o.offer.rest choice.offer.cell
+                (ap (slice_get row) same ∙ o.offer.cell) in
                 let heads : sub s w ≡ d = ap (λ z. sub z w) sums ∙ back in
                 let change : c ≡ (brick_change phase b v (there p phase zs k rests v d) +ℤ choice.offer.rest) =
-                choice.offer.is ∙ ap (λ z. brick_change phase b v (there p phase zs k rests v z) +ℤ choice.offer.rest) heads in
+                choice.offer.is ∙ ap (λ z. brick_change phase b v (there p phase zs k rests v z) +ℤ choice.offer.rest)
+                heads in
                 let costs : o.rest ≡ choice.offer.rest = omega (arith, ints, o.is, change) in
-                let tail : Costs bs x s g choice.offer.rest = subst (λ e. Costs bs x s g e) costs (subst (λ z. Costs bs x z g o.rest) (sym sums) o.walk) in
-                subst (λ z. IsTrue (is_le (slice_cmp lex_cmp (sub s w ∷ h) (z ∷ g)))) heads (tails_decide (sub s w) h g (best.first g tail))
+                let tail : Costs bs x s g choice.offer.rest = subst (λ e. Costs bs x s g e) costs
+                (subst (λ z. Costs bs x z g o.rest) (sym sums) o.walk) in
+                subst (λ z. IsTrue (is_le (slice_cmp lex_cmp (sub s w ∷ h) (z ∷ g)))) heads
+                (tails_decide (sub s w) h g (best.first g tail))
             by (inr (inl before)) =
-                let less : lex_less s (add w d) ≡ true = rising_places zs j o.place s (add w d) rising before choice.offer.listed (o.offer.listed ∙ ap Some o.sum_is) in
+                let less : lex_less s (add w d) ≡ true = rising_places zs j o.place s (add w d) rising before
+                choice.offer.listed (o.offer.listed ∙ ap Some o.sum_is) in
                 let moved : lex_less (sub s w) d ≡ true =
-                ap is_lt (ap (lex_cmp (sub s w)) (sym back) ∙ lex_cmp-sub s (add w d) w (width j s choice.offer.listed) (width o.place (add w d) (o.offer.listed ∙ ap Some o.sum_is))) ∙ less in
+                ap is_lt (ap (lex_cmp (sub s w)) (sym back) ∙ lex_cmp-sub s (add w d) w (width j s choice.offer.listed)
+                (width o.place (add w d) (o.offer.listed ∙ ap Some o.sum_is))) ∙ less in
                 first_decides (sub s w) d h g moved
             by (inr (inr behind)) =
                 let low = choice.first o.place o.cost behind o.offer in
                 absurd (omega (arith, ints, low, o.most))
 
   -- at the last layer the walk without a move is the only one
-  pub least_end : (w : Vector) (o : Option ℤ) → end_cost p phase rests (scale (pos (2 ^ k)) (product p.link w)) ≡ o → IsLeastWalk [] [] w o
+  pub least_end : (w : Vector) (o : Option ℤ) → end_cost p phase rests (scale (pos (2 ^ k)) (product p.link w)) ≡ o →
+      IsLeastWalk [] [] w o
   least_end w None e = none
     where
       none : (h : Bricks) (c : ℤ) → Costs [] [] w h c → ⊥
@@ -241,22 +269,31 @@ module _ (p : Program) (phase : Phase) (zs : List Vector) (k : ℕ) (rests : Vec
       low [] c wc = let q : wc.last ≡ a = same_number _ wc.last a wc.ends e in omega (arith, ints, wc.is, q)
       low (d ∷ h) c wc = absurd (omega (arith, wc.walk.size))
 
-  pub best_end : (w : Vector) (a : ℤ) → end_cost p phase rests (scale (pos (2 ^ k)) (product p.link w)) ≡ Some a → IsBestWalk [] [] w [] a
-  best_end w a e = record { walk = walk_none p phase zs k rests w a e; least = (least_end w (Some a) e).1; first = firsts }
+  pub best_end : (w : Vector) (a : ℤ) → end_cost p phase rests (scale (pos (2 ^ k)) (product p.link w)) ≡ Some a →
+      IsBestWalk [] [] w [] a
+  best_end w a e = record {
+    walk = walk_none p phase zs k rests w a e;
+    least = (least_end w (Some a) e).1;
+    first = firsts;
+  }
     where
       firsts : (g : Bricks) → Costs [] [] w g a → IsTrue (is_le (slice_cmp lex_cmp [] g))
       firsts [] wc = refl
       firsts (d ∷ g) wc = refl
 
   -- the moves so far begin the best walk of all bricks, whatever the best walk is that goes on from w
-  pub record BeginsBest (bricks bs : List Brick) (whole x : Bricks) (start w : Vector) (total c : ℤ) (front : Bricks) : Type 0 where
+  pub record BeginsBest (bricks bs : List Brick) (whole x : Bricks) (start w : Vector) (total c : ℤ) (front : Bricks) :
+      Type 0 where
     pub goes_on : (h : Bricks) → IsBestWalk bs x w h c → IsBestWalk bricks whole start (front ++ h) total
 
-  pub begins_none : (bricks : List Brick) (whole : Bricks) (start : Vector) (total : ℤ) → BeginsBest bricks bricks whole whole start start total total []
+  pub begins_none : (bricks : List Brick) (whole : Bricks) (start : Vector) (total : ℤ) →
+      BeginsBest bricks bricks whole whole start start total total []
   begins_none bricks whole start total = record { goes_on = λ h best. best }
 
-  pub begins_more : (t : ℕ) → All (λ z. length z ≡ t) zs → (bricks bs : List Brick) (whole x : Bricks) (start w : Vector) (total c : ℤ) (front : Bricks)
-      (b : Brick) (v : Vector) (row : List (Option ℤ)) (j : ℕ) → length w ≡ t → is_rising zs ≡ true → IsLeastRow bs x row →
+  pub begins_more : (t : ℕ) → All (λ z. length z ≡ t) zs →
+      (bricks bs : List Brick) (whole x : Bricks) (start w : Vector) (total c : ℤ) (front : Bricks)
+      (b : Brick) (v : Vector) (row : List (Option ℤ)) (j : ℕ) → length w ≡ t → is_rising zs ≡ true →
+      IsLeastRow bs x row →
       (choice : IsChoice b v w row (length zs) c j) → BeginsBest bricks (b ∷ bs) whole (v ∷ x) start w total c front →
       BeginsBest bricks bs whole x start choice.offer.sum total choice.offer.rest (front ++ sub choice.offer.sum w ∷ [])
   begins_more t widths bricks bs whole x start w total c front b v row j size rising least choice begins = record {
@@ -264,5 +301,6 @@ module _ (p : Program) (phase : Phase) (zs : List Vector) (k : ℕ) (rests : Vec
         subst
         (λ g. IsBestWalk bricks whole start g total)
         (sym (append_assoc front (sub choice.offer.sum w ∷ []) h))
-        (begins.goes_on (sub choice.offer.sum w ∷ h) (best_more t widths b bs v x w row c j h size rising least choice best));
+        (begins.goes_on (sub choice.offer.sum w ∷ h) (best_more t widths b bs v x w row c j h size rising least choice
+        best));
   }

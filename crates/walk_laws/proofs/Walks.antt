@@ -15,13 +15,14 @@ module _ (p : Program) (phase : Phase) (zs : List Vector) (k : ℕ) (rests : Vec
   there v d = add v (scale (pos (2 ^ k)) d)
 
   -- the first move of a walk, and the walk after it
-  pub record Front (b : Brick) (bs : List Brick) (v : Vector) (x : Bricks) (w d : Vector) (h : Bricks) (c : ℤ) : Type 0 where
-    pub move : Contains zs d
-    pub sum : Contains zs (add w d)
-    pub within : IsWithin b (there v d)
-    pub rest : ℤ
-    pub walk : WalkCosts p phase zs k rests bs x (add w d) h rest
-    pub is : c ≡ (brick_change phase b v (there v d) +ℤ rest)
+  pub record Front (b : Brick) (bs : List Brick) (v : Vector) (x : Bricks) (w d : Vector) (h : Bricks) (c : ℤ) : Type 0
+    where
+      pub move : Contains zs d
+      pub sum : Contains zs (add w d)
+      pub within : IsWithin b (there v d)
+      pub rest : ℤ
+      pub walk : WalkCosts p phase zs k rests bs x (add w d) h rest
+      pub is : c ≡ (brick_change phase b v (there v d) +ℤ rest)
 
   pub front_of : (b : Brick) (bs : List Brick) (v : Vector) (x : Bricks) (w d : Vector) (h : Bricks) (c : ℤ) →
       WalkCosts p phase zs k rests (b ∷ bs) (v ∷ x) w (d ∷ h) c → Front b bs v x w d h c

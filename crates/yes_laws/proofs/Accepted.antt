@@ -1,5 +1,6 @@
 -- A certificate that breaks no rule shows what it claims.
-use Rattle.std.proofs.Common.{◌≡◌, ◌<◌, ◌≤◌, nat_eq, nat_lt, ◌≤ℤ◌, Bool, true, ◌&&◌, List, [], ◌∷◌, length, Option, Some, None, refl, arith, sym, ◌∙◌}
+use Rattle.std.proofs.Common.{◌≡◌, ◌<◌, ◌≤◌, nat_eq, nat_lt, ◌≤ℤ◌, Bool, true, ◌&&◌, List, [], ◌∷◌, length, Option}
+use Rattle.std.proofs.Common.{Some, None, refl, arith, sym, ◌∙◌}
 use Rattle.std.proofs.lemmas.Int.{ints}
 use Rattle.std.specs.List.{AllZip, AllByRecursion}
 use Rattle.fold_theory.specs.declared.Phase.{Phase}
@@ -13,19 +14,21 @@ use Rattle.lattice_theory.specs.SignedSums.{vectors}
 use Rattle.lattice_laws.proofs.Tests.{and_true, le_true, lt_true, nat_eq_true}
 use Rattle.lattice_laws.proofs.Conformal.{norm_none}
 use Rattle.lattice_laws.proofs.Products.{length-rows}
-use Rattle.fold_theory.specs.Programs.{Program, Brick, Bricks, IsBrick, IsProgram, AreWithin, MeetsBrickRows, is_within, brick_residual, link_rests, link_miss, cost, phase_cost}
+use Rattle.fold_theory.specs.Programs.{Program, Brick, Bricks, IsBrick, IsProgram, AreWithin, MeetsBrickRows, is_within}
+use Rattle.fold_theory.specs.Programs.{brick_residual, link_rests, link_miss, cost, phase_cost}
 use Rattle.run_theory.specs.Steps.{AllowsEnd}
 use Rattle.run_theory.specs.Links.{complexity}
 use Rattle.run_theory.specs.Certificates.{Certificate, FoldPart, listed_sums}
-use Rattle.run_theory.specs.Checker.{layers_hold, starts_at_zero, sums_are_closed, point_fits, parts_fit, fold_rules, first_failing, listed_generators, listed_links, Accept, claimed_verdict}
+use Rattle.run_theory.specs.Checker.{layers_hold, starts_at_zero, sums_are_closed, point_fits, parts_fit, fold_rules}
+use Rattle.run_theory.specs.Checker.{first_failing, listed_generators, listed_links, Accept, claimed_verdict}
 use Rattle.fold_theory.specs.Verdicts.{Holds}
 use Rattle.lattice_laws.proofs.Sums.{same_vector}
-use Rattle.piece_laws.proofs.Bounds.{is_within_true}
 use Rattle.yes_laws.proofs.BrickMisses.{all_pass, accepted_holds}
 use Rattle.yes_laws.proofs.ListedSums.{all_listed}
 use Rattle.piece_laws.proofs.Least.{least}
 use Rattle.lattice_theory.specs.Lists.{all_zip}
 use Rattle.run_theory.specs.Starts.{IsStart}
+use Rattle.fold_laws.proofs.Bounds.{all_within_true}
 use Rattle.piece_laws.specs.Points.{forth}
 use Rattle.piece_laws.specs.Pieces.{IsUnitStep}
 use Rattle.piece_laws.proofs.Starts.{bricks_of}
@@ -81,14 +84,6 @@ lists_of p phase c f rules = record {
 
 -- ---- the point
 
--- the tests of the point, brick by brick
-within_of : (bs : List Brick) (x : Bricks) → all_zip is_within bs x ≡ true → AreWithin bs x
-within_of [] [] passes = tt
-within_of [] (v ∷ x) passes = absurd (cc)
-within_of (b ∷ bs) [] passes = absurd (cc)
-within_of (b ∷ bs) (v ∷ x) passes =
-    let q = and_true (is_within b v) (all_zip is_within bs x) passes in (is_within_true b v q.0, within_of bs x q.1)
-
 module _ (p : Program) where
   abbrev residual_none : Brick → Vector → Bool
   residual_none b v = nat_eq (brick_residual p b v) 0
@@ -112,7 +107,7 @@ module _ (p : Program) where
       let last = and_true (all_zip is_within p.bricks x && all_zip residual_none p.bricks x) (ends_test phase) passes in
       let both = and_true (all_zip is_within p.bricks x) (all_zip residual_none p.bricks x) last.0 in
       record {
-        within = within_of p.bricks x both.0;
+        within = all_within_true p.bricks x both.0;
         brick_rows = meets_of p.bricks x (bricks_of p program) both.1;
         end = by phase last.1;
       }

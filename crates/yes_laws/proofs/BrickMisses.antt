@@ -1,5 +1,6 @@
 -- A certificate on one brick that breaks no rule shows what it claims.
-use Rattle.std.proofs.Common.{◌≡◌, ℕ, ◌+◌, ◌-◌, ◌<◌, nat_eq, Bool, true, false, ◌&&◌, cond, List, [], ◌∷◌, length, Option, Some, None, slice_get, refl, arith, sym, ◌∙◌, subst}
+use Rattle.std.proofs.Common.{◌≡◌, ℕ, ◌+◌, ◌-◌, ◌<◌, nat_eq, Bool, true, false, ◌&&◌, cond, List, [], ◌∷◌, length}
+use Rattle.std.proofs.Common.{Option, Some, None, slice_get, refl, arith, sym, ◌∙◌, subst}
 use Rattle.std.specs.List.{AllByRecursion}
 use Rattle.std.proofs.lemmas.Bool.Decides.{nat_tests}
 use Rattle.run_theory.specs.declared.Rule.{Rule}
@@ -13,11 +14,12 @@ use Rattle.fold_theory.specs.Programs.{Program, Brick, IsBrick, IsProgram, is_wi
 use Rattle.run_theory.specs.Certificates.{Certificate}
 use Rattle.run_theory.specs.Checker.{brick_rules, first_failing, claimed_verdict, Accept}
 use Rattle.fold_theory.specs.Verdicts.{Holds}
-use Rattle.piece_laws.proofs.Bounds.{is_within_true}
 use Rattle.piece_laws.proofs.Bricks.{least_residual, IsHeldBrick}
 use Rattle.lattice_theory.specs.Lattices.{first_parts}
+use Rattle.fold_laws.proofs.Bounds.{is_within_true}
+use Rattle.fold_laws.proofs.Points.{brick_at}
 use Rattle.yes_laws.proofs.BrickSteps.{signed_no_help}
-use Rattle.piece_laws.proofs.Misses.{brick_miss_holds, brick_at}
+use Rattle.piece_laws.proofs.Misses.{brick_miss_holds}
 use Rattle.run_theory.specs.declared.Claim.TheVariants as claim
 
 -- ---- the rules

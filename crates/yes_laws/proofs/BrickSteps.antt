@@ -1,14 +1,14 @@
 -- What the rule on the steps of a brick says: neither x + v nor x - v helps for a listed first part v.
-use Rattle.std.proofs.Common.{◌≡◌, ℕ, ◌≤◌, nat_le, Bool, true, false, ◌&&◌, ◌||◌, not, List, [], ◌∷◌, ap, arith, ◌∙◌, Contains, inl, inr, subst}
-use Rattle.std.proofs.lemmas.Bool.Decides.{nat_tests}
+use Rattle.std.proofs.Common.{◌≡◌, ℕ, ◌≤◌, nat_le, Bool, true, false, ◌&&◌, ◌||◌, not, List, [], ◌∷◌, ap, arith, ◌∙◌}
+use Rattle.std.proofs.Common.{Contains, inl, inr, subst}
 use Rattle.lattice_theory.specs.Vectors.{Vector, add, sub, opposite}
-use Rattle.lattice_laws.proofs.Tests.{and_true}
+use Rattle.lattice_laws.proofs.Tests.{and_true, le_true}
 use Rattle.lattice_laws.proofs.Members.{contains_cases}
 use Rattle.lattice_laws.proofs.Conformal.{opposite-opposite, sub-opposite}
 use Rattle.fold_theory.specs.Programs.{Program, Brick, is_within, brick_residual}
 use Rattle.run_theory.specs.Checker.{no_step_helps}
-use Rattle.piece_laws.proofs.Bounds.{is_within_of}
 use Rattle.lattice_laws.proofs.SlackBases.{IsSigned}
+use Rattle.fold_laws.proofs.Bounds.{is_within_of}
 use Rattle.piece_laws.proofs.Bricks.{IsNoHelp}
 
 -- the test of one step
@@ -20,9 +20,6 @@ no_help : (p : Program) (b : Brick) (x y : Vector) → is_no_help p b x y ≡ tr
 no_help p b x y passes inside =
     by (is_within b y) (is_within_of b y inside) (brick_residual p b x) (brick_residual p b y) passes
   where
-    le_true : (m n : ℕ) → nat_le m n ≡ true → m ≤ n
-    le_true m n passes = grind (arith, nat_tests)
-
     by : (t : Bool) → t ≡ true → (m n : ℕ) → (not t || nat_le m n) ≡ true → m ≤ n
     by true e m n passes = le_true m n passes
     by false e m n passes = absurd (cc)

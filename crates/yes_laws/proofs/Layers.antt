@@ -1,5 +1,6 @@
 -- Listed potentials that hold layer by layer bound the cost of each walk of length 1 from below.
-use Rattle.std.proofs.Common.{◌≡◌, ℤ, ◌+ℤ◌, Bool, true, false, ◌||◌, not, cond, List, [], ◌∷◌, refl, ap, arith, sym, Contains, Option, Some, None, inl, inr, subst, ◌∙◌}
+use Rattle.std.proofs.Common.{◌≡◌, ℤ, ◌+ℤ◌, Bool, true, false, ◌||◌, not, cond, List, [], ◌∷◌, refl, ap, arith, sym}
+use Rattle.std.proofs.Common.{Contains, Option, Some, None, inl, inr, subst, ◌∙◌}
 use Rattle.std.proofs.lemmas.Int.{ints}
 use Rattle.std.specs.List.{list_all}
 use Rattle.fold_theory.specs.declared.Phase.{Phase}
@@ -10,10 +11,10 @@ use Rattle.lattice_laws.proofs.Members.{contains_cases, list_all_at}
 use Rattle.fold_theory.specs.Programs.{Program, Brick, Bricks, is_within, IsWithin}
 use Rattle.run_theory.specs.Walks.{brick_change, end_cost, WalkCosts}
 use Rattle.run_theory.specs.Checker.{at_most, plus, potential_of, layer_holds, layers_hold}
-use Rattle.piece_laws.proofs.Bounds.{is_within_of}
 use Rattle.lattice_theory.specs.Lists.{all_zip}
 use Rattle.walk_laws.proofs.Walks.{front_of}
 use Rattle.lattice_laws.proofs.Multiples.{scale_once}
+use Rattle.fold_laws.proofs.Bounds.{is_within_of}
 
 -- ---- cells
 

@@ -1,6 +1,7 @@
 -- Listed sums that begin at zero and are closed under one more generator below a bound: each sum of so many signed
 -- generators is listed.
-use Rattle.std.proofs.Common.{inl, inr, ◌≡◌, ℕ, zero, suc, ◌<◌, ◌≤◌, nat_le, Bool, true, false, ◌&&◌, ◌||◌, List, [], ◌∷◌, refl, ap, arith, sym, ◌∙◌, Contains, subst, ◌⊎◌}
+use Rattle.std.proofs.Common.{inl, inr, ◌≡◌, ℕ, zero, suc, ◌<◌, ◌≤◌, nat_le, Bool, true, false, ◌&&◌, ◌||◌, List, []}
+use Rattle.std.proofs.Common.{◌∷◌, refl, ap, arith, sym, ◌∙◌, Contains, subst, ◌⊎◌}
 use Rattle.std.specs.List.{list_all}
 use Rattle.lattice_theory.specs.Vectors.{Vector, is_rising, add, sub, zeros, same}
 use Rattle.lattice_theory.specs.SignedSums.{Sum, vectors, IsSignedSum}

@@ -1,6 +1,7 @@
 -- Listed potentials that hold layer by layer, where that of zero at the beginning is not negative, exclude a unit step
 -- to a lower phase cost.
-use Rattle.std.proofs.Common.{◌≡◌, ℤ, pos, ◌≤ℤ◌, Bool, true, false, List, [], ◌∷◌, Option, Some, None, refl, arith, ◌-ℤ◌, subst, sym, ap, length, Contains}
+use Rattle.std.proofs.Common.{◌≡◌, ℤ, pos, ◌≤ℤ◌, Bool, true, false, List, [], ◌∷◌, Option, Some, None, refl, arith}
+use Rattle.std.proofs.Common.{◌-ℤ◌, subst, sym, ap, length, Contains}
 use Rattle.std.proofs.lemmas.Int.{ints}
 use Rattle.fold_theory.specs.declared.Phase.{Phase}
 use Rattle.lattice_theory.specs.Vectors.{Vector, zeros}

@@ -11,6 +11,8 @@ returns-then-moved-from c =
     let value = simp to_z-of_z at c.moved_entry-moved.ensures in
     let above : c.args.lower ≤ℤ c.moved_entry-moved.result = grind (arith, ints) in
     let below : c.moved_entry-moved.result ≤ℤ c.args.upper = grind (arith, ints) in
-    let narrow : FitsSigned w64 c.moved_entry-moved.result = FitsSigned-between w64 c.args.lower c.args.upper c.moved_entry-moved.result c.ranges.lower c.ranges.upper above below in
+    let narrow : FitsSigned w64 c.moved_entry-moved.result =
+    FitsSigned-between w64 c.args.lower c.args.upper c.moved_entry-moved.result c.ranges.lower c.ranges.upper above
+    below in
     let wide : FitsSigned w128 c.moved_entry-moved.result = search rules in
     ((rw (← value) above, rw (← value) below), simp to_z-of_z value)

@@ -1,4 +1,5 @@
-use Rattle.std.proofs.Common.{rules, arith, ◌≤◌, ◌<◌, ◌^◌, ◌+ℤ◌, ◌∙◌, refl, pos, length, get_or, unsigned_abs, w64, FitsSigned}
+use Rattle.std.proofs.Common.{rules, arith, ◌≤◌, ◌<◌, ◌^◌, ◌+ℤ◌, ◌∙◌, refl, pos, length, get_or, unsigned_abs, w64}
+use Rattle.std.proofs.Common.{FitsSigned}
 use Rattle.std.proofs.lemmas.Int.{ints, to_z-of_z, fits_signed_from_abs}
 use Rattle.vector_sums.proofs.SumLaws.{zip-more, zip-all}
 use Rattle.vector_sums.proofs.add_into.Goals as goal

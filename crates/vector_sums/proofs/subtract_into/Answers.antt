@@ -1,4 +1,5 @@
-use Rattle.std.proofs.Common.{rules, arith, ◌≤◌, ◌<◌, ◌^◌, ◌-ℤ◌, ◌∙◌, refl, pos, length, get_or, unsigned_abs, w64, FitsSigned}
+use Rattle.std.proofs.Common.{rules, arith, ◌≤◌, ◌<◌, ◌^◌, ◌-ℤ◌, ◌∙◌, refl, pos, length, get_or, unsigned_abs, w64}
+use Rattle.std.proofs.Common.{FitsSigned}
 use Rattle.std.proofs.lemmas.Int.{ints, to_z-of_z, fits_signed_from_abs}
 use Rattle.vector_sums.proofs.SumLaws.{zip-more, zip-all}
 use Rattle.vector_sums.proofs.subtract_into.Goals as goal
@@ -22,6 +23,10 @@ loop-at-preserved c =
 
 pub returns : goal.returns
 returns c =
-    let past : length c.loop-at.difference ≤ c.loop-at.at = omega (arith, c.loop-at.auto.difference, c.loop-at-test.false) in
+    let past : length c.loop-at.difference ≤ c.loop-at.at = omega (
+      arith,
+      c.loop-at.auto.difference,
+      c.loop-at-test.false,
+    ) in
     zip-all (◌-ℤ◌) c.loop-at.difference c.args.u.now c.args.v.now c.loop-at.at c.requires.same
     (c.loop-at.auto.difference ∙ c.requires.room) past c.loop-at.invariant

@@ -1,6 +1,7 @@
 use Rattle.std.proofs.Common.{ap, arith, length}
 use Rattle.lattice_theory.specs.Matrices.{Matrix}
-use Rattle.brick_dp.proofs.FillLaws.{length-within, shape_of}
+use Rattle.fold_laws.proofs.Points.{point-length}
+use Rattle.fold_program.proofs.PointLaws.{shape_of}
 use Rattle.augment_run.proofs.certifying.certificate_on_all.Goals as goal
 
 pub point_rows-requires : goal.point_rows-requires
@@ -14,7 +15,7 @@ on_all_bricks-requires-clause-point_rows c =
     omega (
       arith,
       ap (λ (m : Matrix). length m.rows) c.in_ok-point.ensures.matrix,
-      length-within p.bricks x c.requires.ended.1.start.within,
+      point-length p.bricks x c.requires.ended.1.start.within,
       c.n.ensures.to,
       c.n.ensures.bricks,
     )

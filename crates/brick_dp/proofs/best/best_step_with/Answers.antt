@@ -1,30 +1,21 @@
-use Rattle.std.proofs.Common.{◌≡◌, ◌+◌, subst, rules, true, length, slice_get, Some, FitsSigned, List, Option}
+use Rattle.std.proofs.Common.{◌≡◌, ◌+◌, subst, rules, true, length, FitsSigned, Option}
 use Rattle.std.specs.Int.{w128}
 use Rattle.std.proofs.lemmas.Int.{to_z-of_z}
-use Rattle.std.proofs.lemmas.Option.{slice_get_within, get_or_from_slice_get}
-use Rattle.lattice_theory.specs.SignedSums.{Sum, vectors}
-use Rattle.lattice_theory.specs.Vectors.{zeros, is_rising}
+use Rattle.std.proofs.lemmas.Option.{MatchOption-at_none, MatchOption-at_some}
+use Rattle.lattice_theory.specs.SignedSums.{vectors}
+use Rattle.lattice_theory.specs.Vectors.{is_rising}
 use Rattle.fold_theory.specs.Programs.{IsProgram}
 use Rattle.run_theory.specs.declared.Key.{Key}
 use Rattle.run_theory.specs.Keys.{IsNoWorse}
-use Rattle.brick_sums.specs.Places.{width}
-use Rattle.std.proofs.lemmas.Option.{MatchOption-at_none, MatchOption-at_some}
 use Rattle.brick_dp.specs.Needs.{IsNeeded, IsHopeless, AreLayersUnder}
-use Rattle.brick_dp.proofs.BestLaws.{zero_at, unbeaten, under_some, under_none}
+use Rattle.brick_dp.proofs.BestLaws.{zero_listed, unbeaten, under_some, under_none}
 use Rattle.brick_dp.proofs.NeedLaws.{beaten_by_need}
 use Rattle.brick_dp.proofs.best.best_step_with.Goals as goal
 
 pub layers_under-requires-clause-zero : goal.layers_under-requires-clause-zero
 layers_under-requires-clause-zero g c =
-    let f = c.args.fold.now in
-    let zero = zero_at f.sums f.program.brick.cols c.zero.result c.sums.ensures.fold.widths
-    (subst (λ (s : List Sum). slice_get (vectors s) c.zero.result ≡ Some (zeros (width s))) c.sums.ensures.sums
-    c.zero.ensures) in (
-      c.zero.result,
-      slice_get_within (vectors f.sums) c.zero.result _ zero,
-      get_or_from_slice_get (vectors f.sums)
-          c.zero.result _ _ zero,
-    )
+    zero_listed c.args.fold.now.sums _ c.args.fold.now.program.brick.cols c.zero.result c.sums.ensures.fold.widths
+    c.sums.ensures.sums c.zero.ensures
 
 pub returns-in_default-clause-answer : goal.returns-in_default-clause-answer
 returns-in_default-clause-answer g c =

@@ -1,6 +1,8 @@
-use Rattle.std.proofs.Common.{◌≡◌, ◌∙◌, ◌^◌, ap, length}
+use Rattle.std.proofs.Common.{◌≡◌, ◌∙◌, ◌^◌, ap, length, subst, sym}
 use Rattle.lattice_theory.specs.SignedSums.{vectors}
 use Rattle.fold_theory.specs.Programs.{link_rests}
+use Rattle.run_theory.specs.Folds.{IsSmallImage}
+use Rattle.walk_ends.proofs.CallerLemmas.{small_image_step}
 use Rattle.brick_dp.specs.Ends.{ending}
 use Rattle.brick_dp.proofs.EndLaws.{ending_is, AreAtMost-push}
 use Rattle.brick_dp.proofs.LayerLaws.{nodes_more}
@@ -9,6 +11,11 @@ use Rattle.brick_dp.proofs.ends.last_layer.Goals as goal
 pub missed_after-after-requires-clause-rests : goal.missed_after-after-requires-clause-rests
 missed_after-after-requires-clause-rests c =
     ap length c.deref.ensures.value ∙ c.in_ok-rests.ensures.count
+
+pub missed_after-after-requires-clause-step : goal.missed_after-after-requires-clause-step
+missed_after-after-requires-clause-step c =
+    small_image_step c.program-program.result.now c.args.k c.sum.result.now c.requires.short
+    (subst (λ p. IsSmallImage p c.sum.result.now) (sym c.program-program.ensures) c.sum.ensures.image)
 
 pub loop-i-preserved : goal.loop-i-preserved
 loop-i-preserved c =

@@ -1,29 +1,19 @@
-use Rattle.std.proofs.Common.{◌≡◌, ◌^◌, ◌≤◌, ◌+◌, ◌∙◌, pos, ap, sym, subst, length, slice_get, Some, List, All}
-use Rattle.std.proofs.lemmas.Option.{slice_get_within, get_or_from_slice_get}
-use Rattle.lattice_theory.specs.SignedSums.{Sum, vectors}
-use Rattle.lattice_theory.specs.Vectors.{zeros}
+use Rattle.std.proofs.Common.{◌≡◌, ◌^◌, ◌≤◌, ◌+◌, ◌∙◌, pos, ap, sym, subst, length, All}
+use Rattle.lattice_theory.specs.SignedSums.{vectors}
 use Rattle.fold_theory.specs.Programs.{Program}
 use Rattle.fold_program.specs.Refusals.{total_magnitude}
 use Rattle.run_theory.specs.Certificates.{Table}
 use Rattle.run_theory.specs.Outcomes.{ArePotentials}
 use Rattle.layer_sieve.specs.Reaching.{AreAtMost}
 use Rattle.sieve_laws.specs.Sieve.{Layer}
-use Rattle.brick_sums.specs.Places.{width}
-use Rattle.brick_dp.proofs.BestLaws.{zero_at}
+use Rattle.brick_dp.proofs.BestLaws.{zero_listed}
 use Rattle.brick_dp.proofs.PotentialLaws.{all_sized, are_potentials, potentials_small}
 use Rattle.brick_dp.proofs.least_costs.potentials.Goals as goal
 
 pub layers-requires-clause-zero : goal.layers-requires-clause-zero
 layers-requires-clause-zero c =
-    let f = c.args.fold.now in
-    let zero = zero_at f.sums f.program.brick.cols c.zero.result c.sums.ensures.fold.widths
-    (subst (λ (s : List Sum). slice_get (vectors s) c.zero.result ≡ Some (zeros (width s))) c.sums.ensures.sums
-    c.zero.ensures) in (
-      c.zero.result,
-      slice_get_within (vectors f.sums) c.zero.result _ zero,
-      get_or_from_slice_get (vectors f.sums)
-          c.zero.result _ _ zero,
-    )
+    zero_listed c.args.fold.now.sums _ c.args.fold.now.program.brick.cols c.zero.result c.sums.ensures.fold.widths
+    c.sums.ensures.sums c.zero.ensures
 
 pub returns-clause-potentials : goal.returns-clause-potentials
 returns-clause-potentials c =

@@ -3,7 +3,7 @@ use Rattle.std.specs.Prelude.{slice_get}
 use Rattle.std.specs.Cmp.Rules.{signed_items}
 use Rattle.std.proofs.lemmas.List.{length-append}
 use Rattle.fold_theory.specs.Programs.{Program}
-use Rattle.brick_dp.proofs.FillLaws.{length-within}
+use Rattle.fold_laws.proofs.Points.{point-length}
 use Rattle.brick_dp.proofs.MenuLaws.{marked_more, not_false}
 use Rattle.brick_dp.proofs.menus.changed_bricks.Goals as goal
 
@@ -11,7 +11,7 @@ pub brick-requires-clause-to : goal.brick-requires-clause-to
 brick-requires-clause-to c =
     omega (
       arith,
-      length-within c.args.fold.now.program.bricks c.args.before.now c.requires.before,
+      point-length c.args.fold.now.program.bricks c.args.before.now c.requires.before,
       c.loop-done-test.true,
       c.n-bricks.ensures.bricks,
       ap (λ (p : Program). length p.bricks) c.program.ensures,
@@ -21,7 +21,7 @@ pub brick-requires-in-loop-done-clause-to : goal.brick-requires-in-loop-done-cla
 brick-requires-in-loop-done-clause-to c =
     omega (
       arith,
-      length-within c.args.fold.now.program.bricks c.args.after.now c.requires.after,
+      point-length c.args.fold.now.program.bricks c.args.after.now c.requires.after,
       c.loop-done-test.true,
       c.n-bricks.ensures.bricks,
       ap (λ (p : Program). length p.bricks) c.program.ensures,
@@ -47,7 +47,7 @@ pub returns : goal.returns
 returns c = record {
   size = omega (
     arith,
-    length-within c.args.fold.now.program.bricks c.args.after.now c.requires.after,
+    point-length c.args.fold.now.program.bricks c.args.after.now c.requires.after,
     c.loop-done.invariant.size,
     c.loop-done-test.false,
     c.loop-done.auto.done-end,

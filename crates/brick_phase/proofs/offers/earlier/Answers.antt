@@ -21,4 +21,5 @@ returns-else-precedes-clause-first c =
 
 pub returns-else-precedes-clause-best : goal.returns-else-precedes-clause-best
 returns-else-precedes-clause-best c =
-    subst (λ best. IfSome best (λ b. IsTrue (is_le (offer_cmp c.in-Some.best b)))) (sym c.in-Some.is) (le_itself offer_total c.in-Some.best)
+    subst (λ best. IfSome best (λ b. IsTrue (is_le (offer_cmp c.in-Some.best b)))) (sym c.in-Some.is)
+    (le_itself offer_total c.in-Some.best)

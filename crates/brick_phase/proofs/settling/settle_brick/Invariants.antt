@@ -7,7 +7,8 @@ use Rattle.brick_phase.proofs.settling.settle_brick.Given as goal
 abbrev pub invariant-loop-trace : goal.invariant-loop-trace
 invariant-loop-trace l = record {
   place : ForBrick l.program l.i (λ b. IsPlace l.program b l.at);
-  leads : ForBrick l.program l.i (λ b. LeadsOn l.program l.basis.elements b (nearest_point b) l.trace.items l.at.point.items);
+  leads : ForBrick l.program l.i (λ b. LeadsOn l.program l.basis.elements b (nearest_point b) l.trace.items
+      l.at.point.items);
 }
 
 abbrev pub decreases-loop-trace : goal.decreases-loop-trace

@@ -1,35 +1,45 @@
-use Rattle.std.proofs.Common.{◌≡◌, ◌+◌, ◌-◌, arith, length, sym, ◌∙◌, take, suc, inl, inr}
+use Rattle.std.proofs.Common.{◌≡◌, ◌+◌, ◌-◌, ◌^◌, arith, length, sym, ◌∙◌, take, suc, inl, inr}
 use Rattle.std.proofs.lemmas.List.{take_all}
 use Rattle.lattice_theory.specs.BasisLimits.{IsNarrow}
+use Rattle.lattice_laws.proofs.Places.{contains_at, slice_get-All}
+use Rattle.vector_sums.proofs.CallerLemmas.{IsSmall-below, IsBounded-below}
 use Rattle.brick_sums.specs.Levels.{sums_of, HasBoth}
-use Rattle.brick_sums.proofs.SumLaws.{IsSignedSum-width, IsSignedSum-small, slice_get-All, slice_get-Contains, All-take_more}
+use Rattle.brick_sums.proofs.SumLaws.{IsSignedSum-width, IsSignedSum-small, All-take_more}
 use Rattle.brick_sums.proofs.LevelLaws.{AreGrown-itself, AreGrown-trans, AreGrown-neighbours, HasNeighbours-kept}
 use Rattle.brick_sums.proofs.FoundLaws.{AreLast-found}
 use Rattle.brick_sums.proofs.growth.add_neighbours.Goals as goal
 
-pub plus-requires-clause-same : goal.plus-requires-clause-same
-plus-requires-clause-same c =
-    IsSignedSum-width c.args.gens.now.cols c.args.gens.now.rows c.requires.even c.args.level _ c.requires.sum
-    ∙ sym c.row-e.ensures.width
+pub sum-requires-clause-same : goal.sum-requires-clause-same
+sum-requires-clause-same c =
+    c.row-e.ensures.width
+    ∙ sym (IsSignedSum-width c.args.gens.now.cols c.args.gens.now.rows c.requires.even c.args.level _ c.requires.sum)
 
-pub plus-requires-clause-first : goal.plus-requires-clause-first
-plus-requires-clause-first c =
-    IsSignedSum-small c.args.gens.now.cols c.args.gens.now.rows c.requires.narrow c.args.level _ c.requires.low c.requires.sum
+pub sum-requires-clause-bounded : goal.sum-requires-clause-bounded
+sum-requires-clause-bounded c =
+    IsBounded-below (2 ^ 46) _ (omega arith)
+    (IsSignedSum-small c.args.gens.now.cols c.args.gens.now.rows c.requires.narrow c.args.level _ c.requires.low
+    c.requires.sum)
 
-pub plus-requires-clause-second : goal.plus-requires-clause-second
-plus-requires-clause-second c = slice_get-All IsNarrow c.args.gens.now.rows _ _ c.row-e.ensures.entries c.requires.narrow
+pub sum-requires-clause-small : goal.sum-requires-clause-small
+sum-requires-clause-small c =
+    IsSmall-below (2 ^ 31) _ (omega arith)
+    (slice_get-All IsNarrow c.args.gens.now.rows _ _ c.row-e.ensures.entries c.requires.narrow)
 
-pub minus-requires-clause-same : goal.minus-requires-clause-same
-minus-requires-clause-same c =
-    IsSignedSum-width c.args.gens.now.cols c.args.gens.now.rows c.requires.even c.args.level _ c.requires.sum
-    ∙ sym c.row-e.ensures.width
+pub difference-requires-clause-same : goal.difference-requires-clause-same
+difference-requires-clause-same c =
+    c.row-e.ensures.width
+    ∙ sym (IsSignedSum-width c.args.gens.now.cols c.args.gens.now.rows c.requires.even c.args.level _ c.requires.sum)
 
-pub minus-requires-clause-first : goal.minus-requires-clause-first
-minus-requires-clause-first c =
-    IsSignedSum-small c.args.gens.now.cols c.args.gens.now.rows c.requires.narrow c.args.level _ c.requires.low c.requires.sum
+pub difference-requires-clause-bounded : goal.difference-requires-clause-bounded
+difference-requires-clause-bounded c =
+    IsBounded-below (2 ^ 46) _ (omega arith)
+    (IsSignedSum-small c.args.gens.now.cols c.args.gens.now.rows c.requires.narrow c.args.level _ c.requires.low
+    c.requires.sum)
 
-pub minus-requires-clause-second : goal.minus-requires-clause-second
-minus-requires-clause-second c = slice_get-All IsNarrow c.args.gens.now.rows _ _ c.row-e.ensures.entries c.requires.narrow
+pub difference-requires-clause-small : goal.difference-requires-clause-small
+difference-requires-clause-small c =
+    IsSmall-below (2 ^ 31) _ (omega arith)
+    (slice_get-All IsNarrow c.args.gens.now.rows _ _ c.row-e.ensures.entries c.requires.narrow)
 
 pub loop-row-init : goal.loop-row-init
 loop-row-init c = record {
@@ -48,16 +58,17 @@ loop-row-preserved c =
     let next : c.args.level + 1 ≡ suc c.args.level = omega arith in
     let place : c.loop-row.row + 1 - 1 ≡ c.loop-row.row = omega arith in
     let here = rw place at c.row-e.ensures.entries in
-    let e = slice_get-Contains gens _ _ here in
+    let e = contains_at gens _ _ here in
     let both = AreGrown-neighbours c.args.gens.now.cols gens c.args.level _ next _ _ _ _ old mid new c.requires.sum
-    e c.in_ok-plus.ensures c.in_ok-minus.ensures c.loop-row.invariant.grown.so_far
+    e c.in_ok-sum.ensures c.in_ok-difference.ensures c.loop-row.invariant.grown.so_far
     c.in_ok-offer.ensures.offered c.in_ok-offer-2.ensures.offered in
     record {
       grown = AreGrown-trans _ _ _ _ _ _ c.loop-row.invariant.grown both.grew;
       last = AreLast-found c.args.gens.now.cols gens (suc c.args.level) _ _ mid new _ _ next
           (AreLast-found c.args.gens.now.cols gens (suc c.args.level) _ _ old mid _ _ next c.loop-row.invariant.last
-          (c.args.before.now, c.row-e.result.now, c.requires.sum, e, inl c.in_ok-plus.ensures) c.in_ok-offer.ensures)
-          (c.args.before.now, c.row-e.result.now, c.requires.sum, e, inr c.in_ok-minus.ensures) c.in_ok-offer-2.ensures;
+          (c.args.before.now, c.row-e.result.now, c.requires.sum, e, inl c.in_ok-sum.ensures) c.in_ok-offer.ensures)
+          (c.args.before.now, c.row-e.result.now, c.requires.sum, e, inr c.in_ok-difference.ensures)
+          c.in_ok-offer-2.ensures;
       done = All-take_more (HasBoth new c.args.before.now) gens _ _ here
           (HasNeighbours-kept (take c.loop-row.row gens) _ old new both.grew.kept c.loop-row.invariant.done) both.there;
     }

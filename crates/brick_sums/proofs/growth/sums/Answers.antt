@@ -13,6 +13,10 @@ unwrap-zero-requires c =
 pub new-requires : goal.new-requires
 new-requires c =
     let found = c.place_of_zero.ensures ∙ ap (position (λ (s : Sum). is_zero s.vector)) c.deref.ensures.value in
-    let few : length c.in_ok-members.members.items ≤ 20000 = omega (arith, c.in_ok-members.ensures.few, c.requires.greatest) in
+    let few : length c.in_ok-members.members.items ≤ 20000 = omega (
+      arith,
+      c.in_ok-members.ensures.few,
+      c.requires.greatest,
+    ) in
     AreSums-AreListed _ _ c.args.g _ c.in_ok-members.ensures.sums c.in_ok-members.ensures.even _ few
     (sym found ∙ c.unwrap-zero.ensures)

@@ -1,7 +1,7 @@
 use Rattle.std.proofs.Common.{arith, ◌≡◌, ◌+◌, ◌-◌, ◌∙◌, sym, subst, true, false}
 use Rattle.lattice_theory.specs.BasisLimits.{IsNarrow}
+use Rattle.lattice_laws.proofs.Places.{slice_get-All}
 use Rattle.complete_lists.specs.Searches.{Search, FitsRows}
-use Rattle.complete_lists.proofs.ScanLaws.{at-All}
 use Rattle.complete_lists.proofs.ClashLaws.{clashes-at}
 use Rattle.complete_lists.proofs.clashes.clashes_settle.Goals as goal
 
@@ -24,7 +24,8 @@ loop-row-preserved c =
 pub row_settles-requires : goal.row_settles-requires
 row_settles-requires c =
     subst (λ (s : Search). FitsRows s.basis c.row.result.now) (sym c.in_ok-settlers.ensures) (record {
-      narrow = at-All IsNarrow c.args.basis.now.rows (c.loop-row.row + 1 - 1) c.row.result.now c.row.ensures.entries
+      narrow = slice_get-All IsNarrow c.args.basis.now.rows (c.loop-row.row + 1 - 1) c.row.result.now
+          c.row.ensures.entries
           c.requires;
       width = c.row.ensures.width;
     })

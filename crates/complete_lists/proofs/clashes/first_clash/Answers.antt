@@ -2,12 +2,13 @@ use Rattle.std.proofs.Common.{rules, arith, ◌≡◌, ◌<◌, ◌&&◌, ◌∙
 use Rattle.std.proofs.Common.{FitsSigned}
 use Rattle.std.proofs.lemmas.Int.{to_z-of_z}
 use Rattle.std.proofs.lemmas.List.{take_all}
+use Rattle.std.proofs.lemmas.Bool.{not-false}
 use Rattle.lattice_laws.proofs.Signs.{agrees}
 use Rattle.lattice_laws.proofs.Conformal.{agree}
 use Rattle.lattice_laws.proofs.Completion.{counts}
 use Rattle.criterion_laws.proofs.Clashes.{counts_clash}
 use Rattle.criterion_laws.proofs.Turned.{agree_clash}
-use Rattle.complete_lists.proofs.ClashLaws.{agree-more, turned_test}
+use Rattle.complete_lists.proofs.ClashLaws.{agree-more}
 use Rattle.complete_lists.proofs.clashes.first_clash.Goals as goal
 
 pub returns-then-clashes-clause-first : goal.returns-then-clashes-clause-first
@@ -34,7 +35,7 @@ loop-at-preserved c =
     let other : FitsSigned w64 (get_or g at (pos 0)) = search rules in
     let test = simp to_z-of_z at c.clashes.ensures in
     agree-more f g at low (omega (arith, c.requires.same)) c.loop-at.invariant
-    (turned_test (agrees (get_or f at (pos 0)) (get_or g at (pos 0))) (sym test ∙ c.if-clashes.false))
+    (not-false (agrees (get_or f at (pos 0)) (get_or g at (pos 0))) (sym test ∙ c.if-clashes.false))
 
 pub returns-clause-first : goal.returns-clause-first
 returns-clause-first c =

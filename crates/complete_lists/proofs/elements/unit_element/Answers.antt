@@ -1,5 +1,5 @@
-use Rattle.std.proofs.Common.{rules, arith, ◌≡◌, ◌<◌, ◌≤◌, ◌+◌, ◌-◌, ◌++◌, ◌∷◌, [], ◌∙◌, sym, ap}
-use Rattle.std.proofs.Common.{map, take, set, replicate, length, pos, w64, FitsSigned, append_assoc}
+use Rattle.std.proofs.Common.{rules, arith, ◌≡◌, ◌<◌, ◌≤◌, ◌+◌, ◌-◌, ◌++◌, ◌∷◌, [], ◌∙◌, sym, ap, map, take, set}
+use Rattle.std.proofs.Common.{replicate, length, pos, w64, FitsSigned, append_assoc}
 use Rattle.std.proofs.lemmas.Int.{to_z-of_z}
 use Rattle.std.proofs.lemmas.List.{take_all, append-nil}
 use Rattle.lattice_theory.specs.Vectors.{dot}

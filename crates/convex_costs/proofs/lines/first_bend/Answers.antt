@@ -1,6 +1,7 @@
 use Rattle.std.proofs.Common.{◌≡◌, true, false, arith, sym, ◌∙◌}
 use Rattle.std.proofs.lemmas.Int.{ints}
-use Rattle.convex_costs.proofs.Neighbours.{first_bend-pass, first_bend-fail, first_bend-end, slope_rises, rising_to, rising_before, origin}
+use Rattle.convex_costs.proofs.Neighbours.{first_bend-pass, first_bend-fail, first_bend-end, slope_rises, rising_to}
+use Rattle.convex_costs.proofs.Neighbours.{rising_before, origin}
 use Rattle.convex_costs.proofs.lines.first_bend.Goals as goal
 
 pub slope-before-requires : goal.slope-before-requires
@@ -10,7 +11,10 @@ slope-before-requires c =
 
 pub slope-requires : goal.slope-requires
 slope-requires c =
-    record { order = rising_to c.args.points.now c.loop-at.at origin c.requires.rising (omega arith) c.loop-at-test.true }
+    record {
+      order = rising_to c.args.points.now c.loop-at.at origin c.requires.rising (omega arith)
+          c.loop-at-test.true;
+    }
 
 pub returns-then-slope-before : goal.returns-then-slope-before
 returns-then-slope-before c =

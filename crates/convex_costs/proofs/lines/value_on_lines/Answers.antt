@@ -18,7 +18,8 @@ returns-then-next-points c =
     let rising = parted ps c.args.v c.requires.rising in
     let some = c.requires.numbers.some in
     let point = IsPartitionPoint-from_clause (λ p. int_lt p.at c.args.v) _ _ left rising (λ a r q k. search rules) in
-    let line = on_lines-found ps _ c.max-next.result c.args.v origin some point c.max-next.ensures c.if-next-points.true in
+    let line = on_lines-found ps _ c.max-next.result c.args.v origin some point c.max-next.ensures
+    c.if-next-points.true in
     let reach = c.ranges.v in
     let fits : FitsSigned w128 c.value_on_line.result = search rules in
     to_z-of_z w128 c.value_on_line.result fits ∙ (simp to_z-of_z at c.value_on_line.ensures) ∙ sym line
@@ -30,5 +31,6 @@ returns-else-next-points c =
     let rising = parted ps c.args.v c.requires.rising in
     let some = c.requires.numbers.some in
     let point = IsPartitionPoint-from_clause (λ p. int_lt p.at c.args.v) _ _ left rising (λ a r q k. search rules) in
-    let last = on_lines-beyond ps _ c.max-next.result c.args.v origin some point c.max-next.ensures c.if-next-points.false in
+    let last = on_lines-beyond ps _ c.max-next.result c.args.v origin some point c.max-next.ensures
+    c.if-next-points.false in
     narrow_is _ (search rules) ∙ sym last

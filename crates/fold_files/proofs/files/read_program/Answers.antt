@@ -12,9 +12,8 @@ use Rattle.fold_files.specs.Faults.{whole_fault}
 use Rattle.fold_files.proofs.CauseLaws.{of_error, read_as, refused_as}
 use Rattle.fold_files.proofs.ProgramLaws.{link_of, brick_of, lower_of, upper_of, right_of, relations_for, costs_for}
 use Rattle.fold_files.proofs.ProgramLaws.{brick_refused, lower_refused, upper_refused, right_refused, relations_refused}
-use Rattle.fold_files.proofs.ProgramLaws.{cost_file_refused, whole_refused, program_read, accepted_whole}
-use Rattle.fold_files.proofs.ProgramLaws.{AreShaped, within_limits, none_misshaped, program_refused}
-use Rattle.fold_files.proofs.ProgramLaws.{whole_of_no_file}
+use Rattle.fold_files.proofs.ProgramLaws.{cost_file_refused, whole_refused, program_read, accepted_whole, AreShaped}
+use Rattle.fold_files.proofs.ProgramLaws.{within_limits, none_misshaped, program_refused, whole_of_no_file}
 use Rattle.fold_files.proofs.files.read_program.Goals as goal
 use Rattle.fold_files.proofs.files.read_program.Goals.{After-shape, After-shape-2, After-shape-3, After-shape-4}
 use Rattle.fold_files.proofs.files.read_program.Goals.{After-read_matrix-2, After-read_matrix-3, After-read_matrix-4}

@@ -1,8 +1,9 @@
 use Rattle.std.proofs.Common.{◌≡◌, ◌∙◌, ◌*◌, ◌+◌, sym, ap, subst, refl, All, IsTrue, length, pos, replicate}
 use Rattle.std.proofs.lemmas.List.Elements.{All-replicate}
-use Rattle.lattice_theory.specs.Vectors.{Vector, is_bounded, IsBoundedRow}
+use Rattle.lattice_theory.specs.Vectors.{is_bounded, IsBoundedRow}
 use Rattle.lattice_theory.specs.Matrices.{Matrix}
-use Rattle.fold_program.proofs.PointLaws.{bounded_rows, length-rows_of}
+use Rattle.lattice_laws.proofs.VectorLists.{length_rows_of}
+use Rattle.fold_program.proofs.PointLaws.{bounded_rows}
 use Rattle.fold_gen.proofs.TransportLaws.{length-uppers, length-costs, program_made}
 use Rattle.fold_gen.proofs.AcceptedLaws.{well_shaped}
 use Rattle.fold_gen.proofs.programs.parts.Goals as goal
@@ -61,9 +62,9 @@ returns-clause-shaped c =
       costs = c.in_ok-costs.costs;
     }) n
     c.requires.some c.requires.few c.in_ok-link.ensures.links c.in_ok-brick.ensures.shares
-    (ap (λ (m : Matrix). length m.rows) c.new.ensures ∙ length-rows_of n 3 c.in_ok-lower.lower.items)
+    (ap (λ (m : Matrix). length m.rows) c.new.ensures ∙ length_rows_of n 3 c.in_ok-lower.lower.items)
     (ap (λ (m : Matrix). m.cols) c.new.ensures)
-    (ap (λ (m : Matrix). length m.rows) c.new-2.ensures ∙ length-rows_of n 3 c.in_ok-upper.upper.items)
+    (ap (λ (m : Matrix). length m.rows) c.new-2.ensures ∙ length_rows_of n 3 c.in_ok-upper.upper.items)
     (ap (λ (m : Matrix). m.cols) c.new-2.ensures)
     (ap (λ (m : Matrix). length m.rows) c.new-3.ensures) (ap (λ (m : Matrix). m.cols) c.new-3.ensures)
     (ap length c.in_ok-costs.ensures.costs ∙ length-costs c.args.customers.now)

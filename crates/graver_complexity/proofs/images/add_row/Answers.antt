@@ -1,7 +1,7 @@
 use Rattle.std.proofs.Common.{◌≡◌, ◌≤◌, ◌+◌, ◌-◌, arith, rules, refl, length, FitsSigned, w64}
 use Rattle.std.proofs.lemmas.Int.{to_z-of_z}
 use Rattle.lattice_theory.specs.BasisLimits.{IsNarrow}
-use Rattle.brick_sums.proofs.SumLaws.{slice_get-All}
+use Rattle.lattice_laws.proofs.Places.{slice_get-All}
 use Rattle.graver_complexity.proofs.LinkLaws.{products_none, products_more, products_all, wide_product}
 use Rattle.graver_complexity.proofs.images.add_row.Goals as goal
 
@@ -15,7 +15,8 @@ loop-j-preserved c =
     let fits : FitsSigned w64 c.in-Some.entry = search rules in
     let pushed = simp to_z-of_z at c.in_ok-push.ensures.items in
     products_more c.args.link.now c.args.g2.now.rows c.loop-j.j c.row.result.now c.args.entries.now.items
-    c.loop-j.entries.items c.push.new.self.items c.in-Some.entry (rw place at c.row.ensures.entries) told.1 told.0 pushed
+    c.loop-j.entries.items c.push.new.self.items c.in-Some.entry (rw place at c.row.ensures.entries) told.1 told.0
+    pushed
     c.loop-j.invariant
 
 pub narrow_product-requires-clause-second : goal.narrow_product-requires-clause-second

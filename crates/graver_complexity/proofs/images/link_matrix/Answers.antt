@@ -1,7 +1,8 @@
 use Rattle.std.proofs.Common.{◌≡◌, ◌≤◌, ◌+◌, ◌-◌, ◌∙◌, arith, refl, sym, subst, length}
 use Rattle.std.specs.List.{All}
 use Rattle.lattice_theory.specs.BasisLimits.{IsNarrow}
-use Rattle.graver_complexity.proofs.LinkLaws.{rows_none, rows_more, wide_fault, of_error, rows_fit, rows_whole, rows_narrow}
+use Rattle.graver_complexity.proofs.LinkLaws.{rows_none, rows_more, wide_fault, of_error, rows_fit, rows_whole}
+use Rattle.graver_complexity.proofs.LinkLaws.{rows_narrow}
 use Rattle.graver_complexity.proofs.images.link_matrix.Goals as goal
 
 pub loop-i-init : goal.loop-i-init
@@ -20,7 +21,8 @@ returns-in_err-add_row-clause-refused c =
     let fault = c.in_err-add_row.field-0.0 in
     of_error c.from_residual.result fault _ c.from_residual.ensures.1
     (wide_fault c.args.g2.now.rows c.args.a1.now.rows c.loop-i.i (length c.args.g2.now.rows) c.row.result.now
-    c.loop-i.entries.items _ fault (rw place at c.row.ensures.entries) refl c.in_err-add_row.ensures.refused c.loop-i.invariant)
+    c.loop-i.entries.items _ fault (rw place at c.row.ensures.entries) refl c.in_err-add_row.ensures.refused
+    c.loop-i.invariant)
 
 pub new-requires : goal.new-requires
 new-requires c =

@@ -4,4 +4,5 @@ use Rattle.graver_complexity.proofs.norms.keeps_equations.Given as goal
 
 -- what is left of the rows decides
 abbrev pub invariant-loop-at : goal.invariant-loop-at
-invariant-loop-at l = keeps_equations (drop l.at l.relations) (drop l.at l.changes) ≡ keeps_equations l.relations l.changes
+invariant-loop-at l = keeps_equations (drop l.at l.relations) (drop l.at l.changes) ≡ keeps_equations l.relations
+    l.changes

@@ -2,7 +2,8 @@ use Rattle.std.proofs.Common.{arith, ◌≡◌, ◌≤◌, ◌<◌, ◌-◌, ◌
 use Rattle.std.proofs.lemmas.List.Elements.{recursion_from_All, All-weaker}
 use Rattle.lattice_theory.specs.Vectors.{IsGreatestMultiple}
 use Rattle.lattice_theory.specs.Lattices.{multiples}
-use Rattle.int_vectors.proofs.MultipleLaws.{multiples-done, multiples-there, multiples-below, fold-min-least, greatest_multiple-IsGreatestMultiple}
+use Rattle.int_vectors.proofs.MultipleLaws.{multiples-done, multiples-there, multiples-below, fold-min-least}
+use Rattle.int_vectors.proofs.MultipleLaws.{greatest_multiple-IsGreatestMultiple}
 use Rattle.int_vectors.proofs.conformal.greatest_multiple.Goals as goal
 
 pub returns-clause-value : goal.returns-clause-value
@@ -13,7 +14,8 @@ returns-clause-value c =
     ∙ fold-min-least (2 ^ 64 - 1) (multiples c.args.e.now c.args.v.now)
     (multiples-there _ _ c.requires.same c.requires.nonzero)
     (multiples-below _ _ (2 ^ 64 - 1) (recursion_from_All (λ y. unsigned_abs y ≤ 2 ^ 64 - 1) _
-    (All-weaker (λ y. unsigned_abs y < 2 ^ 63) (λ y. unsigned_abs y ≤ 2 ^ 64 - 1) (λ y small. omega arith) _ c.requires.second)))
+    (All-weaker (λ y. unsigned_abs y < 2 ^ 63) (λ y. unsigned_abs y ≤ 2 ^ 64 - 1) (λ y small. omega arith) _
+    c.requires.second)))
 
 pub returns-clause-greatest : goal.returns-clause-greatest
 returns-clause-greatest c =

@@ -1,4 +1,5 @@
-use Rattle.std.proofs.Common.{arith, rules, ◌≡◌, ◌++◌, ◌∷◌, [], length, ◌⊎◌, inl, inr, ◌∙◌, ap, ◌+ℤ◌, Some, w64, FitsSigned}
+use Rattle.std.proofs.Common.{arith, rules, ◌≡◌, ◌++◌, ◌∷◌, [], length, ◌⊎◌, inl, inr, ◌∙◌, ap, ◌+ℤ◌, Some, w64}
+use Rattle.std.proofs.Common.{FitsSigned}
 use Rattle.std.proofs.lemmas.Grind.{common_steps}
 use Rattle.std.proofs.lemmas.Int.{ints, to_z-of_z}
 use Rattle.int_vectors.proofs.TotalLaws.{first_unbounded-next, first_unbounded-snoc}

@@ -3,9 +3,9 @@ use Rattle.std.specs.Int.{w128}
 use Rattle.std.proofs.lemmas.Int.{to_z-of_z}
 use Rattle.std.proofs.lemmas.Option.{slice_get-get_or, slice_get_within}
 use Rattle.lattice_theory.specs.SignedSums.{vectors}
+use Rattle.lattice_laws.proofs.Places.{same_value}
 use Rattle.sieve_laws.specs.declared.PricedMove.{PricedMove}
 use Rattle.sieve_laws.specs.Sieve.{Goes}
-use Rattle.sieve_laws.proofs.Cells.{at_same}
 use Rattle.layer_sieve.specs.declared.reaching.Reach.{Reach}
 use Rattle.layer_sieve.proofs.ReachLaws.{sum_fits, choice_here, choice_later}
 use Rattle.layer_sieve.proofs.choices.first_choice.Goals as goal
@@ -69,7 +69,7 @@ loop-m-preserved c =
     c.loop-m.m-index m c.reached_from.result
     (slice_get-get_or c.args.menu.now c.loop-m.m-index _ c.loop-m-test.true) c.reached_from.ensures
     (λ r e is.
-    let same : r ≡ c.in-Some.reached = at_same c.reached_from.result r c.in-Some.reached e c.in-Some.is in
+    let same : r ≡ c.in-Some.reached = same_value c.reached_from.result r c.in-Some.reached e c.in-Some.is in
     let costs : m.change +ℤ c.in-Some.reached.rest ≡ c.args.cost =
     sym (is ∙ ap (λ (r : Reach). m.change +ℤ r.rest) same) in
     c.if-m-reached.false (simp to_z-of_z (ap (of_z w128) costs)))

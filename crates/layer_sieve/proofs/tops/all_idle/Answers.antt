@@ -3,8 +3,8 @@ use Rattle.std.specs.Int.{w128}
 use Rattle.std.proofs.lemmas.Int.{to_z-of_z}
 use Rattle.std.proofs.lemmas.Bool.{OnTrue_at}
 use Rattle.lattice_theory.specs.SignedSums.{vectors}
+use Rattle.lattice_laws.proofs.Places.{same_value}
 use Rattle.sieve_laws.specs.Sieve.{IsIdle, AreTops, live}
-use Rattle.sieve_laws.proofs.Cells.{at_same}
 use Rattle.sieve_laws.proofs.Idle.{AreIdleUpTo, idle_none, idle_more, idle_all}
 use Rattle.layer_sieve.proofs.ReachLaws.{size_vectors}
 use Rattle.layer_sieve.proofs.tops.all_idle.Goals as goal
@@ -38,7 +38,7 @@ loop-place-preserved c =
           simp to_z-of_z (record {
             idle = idle_more zs from c.args.next.now c.args.changes.now c.loop-place.place (λ change there.
                 let same : w.in-Some.change ≡ change =
-                at_same c.change_at.result w.in-Some.change change w.in-Some.is (c.change_at.ensures change there) in
+                same_value c.change_at.result w.in-Some.change change w.in-Some.is (c.change_at.ensures change there) in
                 subst (λ a. IsIdle zs from c.args.next.now (record { place = c.loop-place.place; change = a }))
                 same told) so_far;
             tops = subst (AreTops zs from c.args.next.now) (sym w.tops-is)

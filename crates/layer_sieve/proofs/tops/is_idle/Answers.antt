@@ -4,10 +4,10 @@ use Rattle.std.specs.Int.{w128}
 use Rattle.std.proofs.lemmas.Int.{to_z-of_z}
 use Rattle.std.proofs.lemmas.Bool.{OnTrue_from, OnTrue_at}
 use Rattle.lattice_theory.specs.SignedSums.{vectors}
+use Rattle.lattice_laws.proofs.Places.{if_some}
 use Rattle.sieve_laws.specs.Sieve.{AreTops, IsTop, live}
 use Rattle.sieve_laws.proofs.Tops.{tops_more, top_idle}
 use Rattle.layer_sieve.specs.Falls.{IsLow}
-use Rattle.layer_sieve.proofs.FlagLaws.{if_some}
 use Rattle.layer_sieve.proofs.ReachLaws.{read_at, size_vectors}
 use Rattle.layer_sieve.proofs.tops.is_idle.Goals as goal
 use Rattle.layer_sieve.proofs.tops.is_idle.Goals.{then-not-is_low, else-not-is_low}

@@ -1,5 +1,4 @@
-use Rattle.std.proofs.Common.{◌≡◌, ◌-ℤ◌, ◌+◌, ◌<◌, ◌≤ℤ◌, arith, rules, None, Some, length, FitsSigned}
-use Rattle.std.proofs.Common.{to_z, subst, sym}
+use Rattle.std.proofs.Common.{◌≡◌, ◌-ℤ◌, ◌+◌, ◌<◌, ◌≤ℤ◌, arith, rules, None, Some, length, FitsSigned, to_z, subst, sym}
 use Rattle.std.specs.Int.{w128}
 use Rattle.std.proofs.lemmas.Int.{to_z-of_z, ints}
 use Rattle.sieve_laws.proofs.Tops.{FallsLeast, least_more, least_new, least_empty}

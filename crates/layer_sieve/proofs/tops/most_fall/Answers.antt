@@ -1,5 +1,5 @@
-use Rattle.std.proofs.Common.{◌≡◌, ◌-ℤ◌, ◌+◌, ◌<◌, ◌≤ℤ◌, arith, rules, None, Some, length, get_or, FitsSigned}
-use Rattle.std.proofs.Common.{to_z, subst, sym}
+use Rattle.std.proofs.Common.{◌≡◌, ◌-ℤ◌, ◌+◌, ◌<◌, ◌≤ℤ◌, arith, rules, None, Some, length, get_or, FitsSigned, to_z}
+use Rattle.std.proofs.Common.{subst, sym}
 use Rattle.std.specs.Int.{w128}
 use Rattle.std.proofs.lemmas.Int.{to_z-of_z, ints}
 use Rattle.sieve_laws.specs.Sieve.{under}

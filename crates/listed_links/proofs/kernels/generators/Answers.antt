@@ -1,10 +1,10 @@
-use Rattle.std.proofs.Common.{arith, ◌≡◌, ◌≤◌, ◌+◌, ◌-◌, ◌*◌, ◌++◌, ◌∙◌, sym, ap, length, take, drop, subst}
-use Rattle.std.proofs.Common.{length-take, true, false}
+use Rattle.std.proofs.Common.{arith, ◌≡◌, ◌≤◌, ◌+◌, ◌-◌, ◌++◌, ◌∙◌, sym, ap, length, take, subst, length-take, true}
+use Rattle.std.proofs.Common.{false}
 use Rattle.std.specs.List.{All}
 use Rattle.lattice_theory.specs.Vectors.{is_zero}
 use Rattle.lattice_theory.specs.BasisLimits.{IsNarrow}
+use Rattle.lattice_laws.proofs.VectorLists.{length-kernel}
 use Rattle.listed_links.proofs.RowLaws.{AreRead, read-taken, read-left, read-rows, stands-length, kernel-narrow}
-use Rattle.listed_links.proofs.RowLaws.{few-kernel}
 use Rattle.listed_links.proofs.kernels.generators.Goals as goal
 use Rattle.listed_links.proofs.kernels.generators.Goals.{then-is_zero+in_ok-extend_from_slice, else-is_zero}
 
@@ -60,4 +60,4 @@ returns-clause-few c =
     let rows = ap (λ m. m.rows) c.new.ensures
     ∙ read-rows c.args.cols c.loop-row.row c.loop-row.count c.args.basis.now.rows c.loop-row.entries.items
     c.loop-row.invariant past in
-    omega (arith, ap length rows, few-kernel c.args.cols c.args.basis.now.rows, c.requires.few)
+    omega (arith, ap length rows, length-kernel c.args.cols c.args.basis.now.rows, c.requires.few)

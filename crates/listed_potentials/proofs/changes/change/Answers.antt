@@ -2,15 +2,16 @@ use Rattle.std.proofs.Common.{rules, arith, ◌≡◌, ◌-ℤ◌, ◌∙◌, sy
 use Rattle.std.specs.Int.{w128}
 use Rattle.std.proofs.lemmas.Int.{to_z-of_z, fits_signed_from_abs}
 use Rattle.fold_theory.specs.Programs.{is_within}
+use Rattle.fold_laws.proofs.Bounds.{is_within_true}
 use Rattle.fold_program.specs.Places.{OfBrick}
 use Rattle.listed_potentials.specs.Moves.{change_of}
 use Rattle.listed_potentials.proofs.RowLaws.{closed_change, change_fits}
-use Rattle.fold_program.proofs.PlaceLaws.{for_brick, within_is}
+use Rattle.fold_program.proofs.PlaceLaws.{for_brick}
 use Rattle.listed_potentials.proofs.changes.change.Goals as goal
 
 pub brick_cost-requires-clause-within : goal.brick_cost-requires-clause-within
 brick_cost-requires-clause-within c =
-    λ b there. within_is b c.args.to.now
+    λ b there. is_within_true b c.args.to.now
     (sym (for_brick c.args.program.now c.args.brick (λ d. c.is_within.result ≡ is_within d c.args.to.now)
     c.is_within.ensures b there)
     ∙ c.if-not-is_within.false)

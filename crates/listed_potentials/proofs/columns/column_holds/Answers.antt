@@ -1,6 +1,5 @@
-use Rattle.std.proofs.Common.{arith, ◌<◌, ◌+◌, ◌^◌, ◌∙◌, sym, map, length, true, false}
-use Rattle.std.proofs.Common.{ℤ, Option, Vec, Global}
-use Rattle.complete_lists.proofs.ScanLaws.{at-All}
+use Rattle.std.proofs.Common.{arith, ◌<◌, ◌+◌, ◌^◌, ◌∙◌, sym, map, length, true, false, ℤ, Option, Vec, Global}
+use Rattle.lattice_laws.proofs.Places.{slice_get-All}
 use Rattle.listed_potentials.specs.Sizes.{AreSmall}
 use Rattle.listed_potentials.specs.Moves.{row_holds}
 use Rattle.listed_potentials.proofs.RowLaws.{column-at, image-read, cell-read}
@@ -8,7 +7,7 @@ use Rattle.listed_potentials.proofs.columns.column_holds.Goals as goal
 
 pub row_holds-requires-clause-cells : goal.row_holds-requires-clause-cells
 row_holds-requires-clause-cells c =
-    at-All (AreSmall (2 ^ 124)) c.args.potentials.now.rows (c.loop-layer.layer + 1) c.row-next.result.now
+    slice_get-All (AreSmall (2 ^ 124)) c.args.potentials.now.rows (c.loop-layer.layer + 1) c.row-next.result.now
     c.row-next.ensures.cells c.requires.cells
 
 pub returns-then-not-row_holds : goal.returns-then-not-row_holds

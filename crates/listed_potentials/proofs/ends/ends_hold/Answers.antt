@@ -1,27 +1,29 @@
-use Rattle.std.proofs.Common.{arith, ◌≡◌, ◌≤◌, ◌<◌, ◌∙◌, sym, ap, length, get_or, true, false, None, Some}
+use Rattle.std.proofs.Common.{arith, ◌≡◌, ◌≤◌, ◌<◌, ◌∙◌, sym, ap, length, get_or, true, false, None}
 use Rattle.std.proofs.lemmas.Option.{slice_get-get_or}
-use Rattle.lattice_theory.specs.Vectors.{Vector, sub}
+use Rattle.lattice_theory.specs.Vectors.{sub}
 use Rattle.lattice_theory.specs.Matrices.{product}
 use Rattle.fold_theory.specs.Programs.{link_rests, link_miss}
-use Rattle.run_theory.specs.Walks.{end_cost}
+use Rattle.run_theory.specs.Walks.{end_cost, end_at}
 use Rattle.run_theory.specs.Checker.{at_most}
-use Rattle.complete_lists.proofs.ScanLaws.{at-All}
+use Rattle.lattice_laws.proofs.Places.{slice_get-All}
+use Rattle.lattice_laws.proofs.Multiples.{scale_once}
 use Rattle.listed_sums.specs.Places.{vectors_of, IsModest}
 use Rattle.listed_sums.proofs.RowLaws.{length-vectors_of}
-use Rattle.listed_potentials.specs.Ends.{end_at}
-use Rattle.listed_potentials.proofs.EndLaws.{end-cost}
 use Rattle.listed_potentials.proofs.RowLaws.{zip-at, zip-end}
 use Rattle.listed_potentials.proofs.ends.ends_hold.Goals as goal
 use Rattle.listed_potentials.proofs.ends.ends_hold.Goals.{After-is_at_most}
+use Rattle.listed_potentials.proofs.EndLaws.{modest_step}
 
 pub missed_after-after-requires-clause-rests : goal.missed_after-after-requires-clause-rests
 missed_after-after-requires-clause-rests c =
     ap length c.deref.ensures.value ∙ c.in_ok-rests.ensures.count
 
-pub missed_after-after-requires-clause-modest : goal.missed_after-after-requires-clause-modest
-missed_after-after-requires-clause-modest c =
-    at-All IsModest (vectors_of c.args.sums.now.rows) c.loop-place.place c.vector_of.result.now c.vector_of.ensures.sum
-    c.requires.modest
+pub missed_after-after-requires-clause-step : goal.missed_after-after-requires-clause-step
+missed_after-after-requires-clause-step c =
+    modest_step c.args.program.now c.vector_of.result.now c.link.ensures.narrow
+    (omega (arith, c.vector_of.ensures.width, c.requires.sums, c.t.ensures.to, c.t.ensures.cols))
+    (slice_get-All IsModest (vectors_of c.args.sums.now.rows) c.loop-place.place c.vector_of.result.now
+    c.vector_of.ensures.sum c.requires.modest)
 
 -- the place is one of the last layer
 inside : (c : After-is_at_most) → c.loop-place.place < length c.args.row.now
@@ -37,11 +39,12 @@ tested c =
     let rests = link_rests p c.args.point.now in
     let w = c.vector_of.result.now in
     let cost : end_cost p c.args.phase rests (product p.link w) ≡ c.end.result =
-    end-cost p c.args.phase rests (product p.link w)
-    ∙ (λ i. end_at c.args.phase (sym c.link_residual-before.ensures.residual i)
+    (λ i. end_at c.args.phase (sym c.link_residual-before.ensures.residual i)
     (link_miss p (sub (sym (c.deref.ensures.value ∙ c.in_ok-rests.ensures.rests) i) (product p.link w))))
+    ∙ ap (λ image. end_at c.args.phase c.link_residual-before.result
+    (link_miss p (sub c.deref.result.now image))) (sym (scale_once (product p.link w)))
     ∙ ap (end_at c.args.phase c.link_residual-before.result) (sym c.missed_after-after.ensures.missed)
-    ∙ sym c.end.ensures in
+    ∙ sym c.end.ensures.cost in
     ap (at_most (get_or c.args.row.now c.loop-place.place None)) cost ∙ sym c.is_at_most.ensures
 
 pub returns-then-not-is_at_most : goal.returns-then-not-is_at_most

@@ -1,5 +1,5 @@
-use Rattle.std.proofs.Common.{arith, ◌≡◌, ◌≤◌, ◌+◌, ◌-◌, ◌^◌, ◌∙◌, sym, ap, length, Some, slice_get, Option, ℤ}
-use Rattle.std.proofs.Common.{Vec, Global}
+use Rattle.std.proofs.Common.{arith, ◌≡◌, ◌≤◌, ◌+◌, ◌-◌, ◌^◌, ◌∙◌, sym, ap, length, Some, slice_get, Option, ℤ, Vec}
+use Rattle.std.proofs.Common.{Global}
 use Rattle.std.proofs.lemmas.List.{take_all}
 use Rattle.listed_sums.specs.Places.{vectors_of}
 use Rattle.listed_potentials.specs.Sizes.{AreSmall}

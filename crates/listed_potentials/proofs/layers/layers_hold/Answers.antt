@@ -13,19 +13,32 @@ use Rattle.listed_potentials.specs.Ends.{ends_hold}
 use Rattle.listed_potentials.proofs.RowLaws.{layers-decide, ends-fail, ends-pass, widths-of, length-changes}
 use Rattle.listed_potentials.proofs.RowLaws.{changes-of-width, unmapped}
 use Rattle.listed_potentials.proofs.layers.layers_hold.Goals as goal
+use Rattle.listed_potentials.proofs.layers.layers_hold.Goals.{After-row-last}
 
-pub returns-then-not-branch : goal.returns-then-not-branch
-returns-then-not-branch c =
+-- the layers hold where the columns do and the ends
+decided : (c : After-row-last) →
+    layers_hold c.args.program.now c.args.phase (vectors_of c.args.sums.now.rows)
+    (link_rests c.args.program.now c.args.point.now) c.args.program.now.bricks c.args.point.now
+    c.args.potentials.now.rows
+    ≡ (columns_hold (all_changes c.args.phase (vectors_of c.args.sums.now.rows) c.args.program.now.bricks
+    c.args.point.now) (vectors_of c.args.sums.now.rows) c.args.potentials.now.rows 0
+    (vectors_of c.args.sums.now.rows)
+    && ends_hold c.args.program.now c.args.phase (vectors_of c.args.sums.now.rows)
+    (link_rests c.args.program.now c.args.point.now) c.row-last.result.now)
+decided c =
     let p = c.args.program.now in
-    let zs = vectors_of c.args.sums.now.rows in
     let rows = c.args.potentials.now.rows in
     let x = c.args.point.now in
     let widths = widths-of c.args.sums.now.rows rows _ c.cols.ensures.each_row (c.cols.ensures.cols
     ∙ c.requires.cols) in
-    let decided = layers-decide p c.args.phase zs (link_rests p x) x rows c.row-last.result.now c.requires.shape.bricks
-    c.requires.layers widths (ap (slice_get rows) (sym c.n.ensures.bricks) ∙ c.row-last.ensures.cells) in
-    ends-fail (columns_hold (all_changes c.args.phase zs p.bricks x) zs rows 0 zs)
-    (ends_hold p c.args.phase zs (link_rests p x) c.row-last.result.now) _ decided
+    layers-decide p c.args.phase (vectors_of c.args.sums.now.rows) (link_rests p x) x rows c.row-last.result.now
+    c.requires.shape.bricks c.requires.layers widths (ap (slice_get rows) (sym c.n.ensures.bricks)
+    ∙ c.row-last.ensures.cells)
+
+pub returns-then-not-branch : goal.returns-then-not-branch
+returns-then-not-branch c =
+    let past = goal.at.returns-then-not-branch c in
+    ends-fail _ _ _ (decided past.After-row-last)
     (sym c.in_ok-ends_hold.ensures ∙ c.if-not-branch.true)
 
 pub columns_hold-requires-clause-layers : goal.columns_hold-requires-clause-layers
@@ -76,16 +89,12 @@ returns c =
     let zs = vectors_of c.args.sums.now.rows in
     let rows = c.args.potentials.now.rows in
     let x = c.args.point.now in
-    let widths = widths-of c.args.sums.now.rows rows _ c.cols.ensures.each_row (c.cols.ensures.cols
-    ∙ c.requires.cols) in
-    let decided = layers-decide p c.args.phase zs (link_rests p x) x rows c.row-last.result.now c.requires.shape.bricks
-    c.requires.layers widths (ap (slice_get rows) (sym c.n.ensures.bricks) ∙ c.row-last.ensures.cells) in
+    let past = goal.at.returns c in
     let changes = ap (map items) c.deref.ensures.value ∙ c.in_ok-changes.ensures.changes in
     IfOk-weaker c.columns_hold.result
     (λ b. b ≡ columns_hold (map items c.deref.result.now) zs rows 0 zs)
     (λ b. b ≡ layers_hold p c.args.phase zs (link_rests p x) p.bricks x rows)
     (λ b is. is ∙ ap (λ cs. columns_hold cs zs rows 0 zs) changes
-    ∙ ends-pass (columns_hold (all_changes c.args.phase zs p.bricks x) zs rows 0 zs)
-    (ends_hold p c.args.phase zs (link_rests p x) c.row-last.result.now) _ decided
+    ∙ ends-pass _ _ _ (decided past.After-row-last)
     (sym c.in_ok-ends_hold.ensures ∙ c.if-not-branch.false))
     c.columns_hold.ensures

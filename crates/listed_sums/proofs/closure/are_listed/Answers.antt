@@ -3,7 +3,8 @@ use Rattle.std.proofs.lemmas.List.Elements.{All-weaker}
 use Rattle.lattice_theory.specs.Vectors.{add, sub}
 use Rattle.lattice_theory.specs.BasisLimits.{IsNarrow}
 use Rattle.run_theory.specs.Checker.{is_sum_within}
-use Rattle.complete_lists.proofs.ScanLaws.{list_all-at, at-All}
+use Rattle.lattice_laws.proofs.Places.{slice_get-All}
+use Rattle.complete_lists.proofs.ScanLaws.{list_all-at}
 use Rattle.listed_sums.specs.Places.{sums_of}
 use Rattle.listed_sums.proofs.closure.are_listed.Goals as goal
 
@@ -11,7 +12,7 @@ pub subtract_into-requires-clause-small : goal.subtract_into-requires-clause-sma
 subtract_into-requires-clause-small c =
     All-weaker (λ a. unsigned_abs a < 2 ^ 31) (λ a. unsigned_abs a < 2 ^ 62) (λ a narrow. omega arith)
     c.row-generator.result.now
-    (at-All IsNarrow c.args.generators.now.rows (c.loop-row.row + 1 - 1) c.row-generator.result.now
+    (slice_get-All IsNarrow c.args.generators.now.rows (c.loop-row.row + 1 - 1) c.row-generator.result.now
     c.row-generator.ensures.entries c.requires.narrow)
 
 pub returns-then-not-is_listed : goal.returns-then-not-is_listed

@@ -1,5 +1,4 @@
-use Rattle.std.proofs.Common.{arith, ◌≡◌, ◌+◌, ◌-◌, ◌∙◌, ap, sym, Some, length, drop}
-use Rattle.std.proofs.Common.{length-drop}
+use Rattle.std.proofs.Common.{arith, ◌≡◌, ◌+◌, ◌-◌, ◌∙◌, ap, sym, Some, length, drop, length-drop}
 use Rattle.std.proofs.lemmas.List.{take_all}
 use Rattle.listed_sums.proofs.RowLaws.{vector-at}
 use Rattle.listed_sums.proofs.places.vector_of.Goals as goal

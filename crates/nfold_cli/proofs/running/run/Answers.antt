@@ -1,6 +1,6 @@
 use Rattle.std.proofs.Common.{map}
-use Rattle.nfold_cli.proofs.RunLaws.{form_answered, ends, reads_fail, writes_fail, leaves, changes}
-use Rattle.nfold_cli.proofs.RunLaws.{keeps, is_quiet, says, tells_truth}
+use Rattle.nfold_cli.proofs.RunLaws.{form_answered, ends, reads_fail, writes_fail, leaves, changes, keeps, is_quiet}
+use Rattle.nfold_cli.proofs.RunLaws.{says, tells_truth}
 use Rattle.nfold_cli.proofs.running.run.Goals as goal
 
 pub returns-clause-form : goal.returns-clause-form

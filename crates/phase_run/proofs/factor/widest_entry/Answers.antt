@@ -5,7 +5,8 @@ use Rattle.lattice_theory.specs.Matrices.{product}
 use Rattle.lattice_theory.specs.SignedSums.{Sum, vectors}
 use Rattle.fold_theory.specs.Programs.{Program, IsProgram}
 use Rattle.run_theory.specs.Folds.{IsSmallImage}
-use Rattle.phase_run.proofs.FactorLaws.{greatest_more, all_there}
+use Rattle.lattice_laws.proofs.Places.{slice_get-All}
+use Rattle.phase_run.proofs.FactorLaws.{greatest_more}
 use Rattle.phase_run.proofs.factor.widest_entry.Goals as goal
 
 pub widest_of-requires-clause-width : goal.widest_of-requires-clause-width
@@ -14,8 +15,8 @@ widest_of-requires-clause-width c =
     let program : IsProgram f.program = subst IsProgram c.program-program.ensures c.n.ensures.program in
     let there = ap (λ (s : List Sum). slice_get (vectors s) c.loop-i.i) (sym c.sums-sums.ensures.sums)
     ∙ c.get.ensures.vector in
-    all_there (λ (w : Vector). length w ≡ f.program.brick.cols)
-    (vectors f.sums) c.loop-i.i c.get.result.now c.sums-sums.ensures.fold.widths there
+    slice_get-All (λ (w : Vector). length w ≡ f.program.brick.cols)
+    (vectors f.sums) c.loop-i.i c.get.result.now there c.sums-sums.ensures.fold.widths
     ∙ program.brick_shape.width ∙ ap (λ (p : Program). p.link.cols) (sym c.program-program.ensures)
 
 pub widest_of-requires-clause-image : goal.widest_of-requires-clause-image
@@ -24,8 +25,8 @@ widest_of-requires-clause-image c =
     let there = ap (λ (s : List Sum). slice_get (vectors s) c.loop-i.i) (sym c.sums-sums.ensures.sums)
     ∙ c.get.ensures.vector in
     subst (λ (p : Program). IsSmallImage p c.get.result.now) (sym c.program-program.ensures)
-    (all_there (IsSmallImage f.program) (vectors f.sums) c.loop-i.i c.get.result.now c.sums-sums.ensures.fold.images
-    there)
+    (slice_get-All (IsSmallImage f.program) (vectors f.sums) c.loop-i.i c.get.result.now there
+    c.sums-sums.ensures.fold.images)
 
 pub loop-i-preserved : goal.loop-i-preserved
 loop-i-preserved c =

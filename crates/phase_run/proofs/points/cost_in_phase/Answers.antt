@@ -1,7 +1,7 @@
 use Rattle.std.proofs.Common.{sym, subst}
 use Rattle.fold_theory.specs.Programs.{Program, IsProgram}
 use Rattle.fold_program.specs.Points.{HasPointShape}
-use Rattle.phase_run.proofs.PointLaws.{shape_of}
+use Rattle.fold_program.proofs.PointLaws.{shape_of}
 use Rattle.phase_run.proofs.points.cost_in_phase.Goals as goal
 
 pub link_residual-requires : goal.link_residual-requires

@@ -7,11 +7,13 @@ use Rattle.lattice_theory.specs.Matrices.{rows_of}
 use Rattle.fold_theory.specs.Programs.{Program, IsProgram, Bricks, AreWithin}
 use Rattle.fold_program.specs.Places.{OfBrick}
 use Rattle.fold_program.specs.Points.{IsPoint}
+use Rattle.fold_program.proofs.PointLaws.{shape_of}
 use Rattle.run_theory.specs.Steps.{moved}
 use Rattle.run_theory.specs.Outcomes.{Step}
+use Rattle.lattice_laws.proofs.Places.{if_some}
 use Rattle.step_targets.specs.Targets.{after, AreBetween}
-use Rattle.phase_run.proofs.PointLaws.{shape_of, step_sizes, part_within, leads_somewhere, leads_there}
-use Rattle.phase_run.proofs.PointLaws.{if_some, rows_of_point, length-entries, width_at}
+use Rattle.phase_run.proofs.PointLaws.{step_sizes, part_within, leads_somewhere, leads_there, rows_of_point}
+use Rattle.phase_run.proofs.PointLaws.{length-entries, width_at}
 use Rattle.phase_run.proofs.StepLaws.{rest_of, named_part, moved_there, stepped_moved, stepped_still, stepped_all}
 use Rattle.phase_run.proofs.points.stepped.Goals as goal
 use Rattle.phase_run.proofs.points.stepped.Goals.{then-is_first+in_ok-end+in-Some+in_ok-extend_from_slice}
@@ -187,8 +189,8 @@ returns c = λ m best is.
     let whole = stepped_all f.program.link.cols m.k x m.bricks sizes.same sizes.point sizes.parts c.loop-i.i
     c.loop-i.names.now c.loop-i.parts.now c.loop-i.entries.items
     (omega (arith, shape.bricks, bricks, c.loop-i-test.false)) (c.loop-i.invariant m best is) in
-    let made = if_some c.new.result (IsPoint c.program-program.result.now c.loop-i.entries.items) c.unwrap.result
-    c.new.ensures.made c.unwrap.ensures in
+    let made = if_some (IsPoint c.program-program.result.now c.loop-i.entries.items) c.new.result c.unwrap.result
+    c.unwrap.ensures c.new.ensures.made in
     made.value ∙ ap (λ (p : Program). rows_of (length p.bricks) p.link.cols c.loop-i.entries.items)
     c.program-program.ensures
     ∙ rows_of_point f.program y c.loop-i.entries.items program within whole

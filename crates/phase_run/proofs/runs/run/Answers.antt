@@ -7,6 +7,7 @@ use Rattle.run_theory.specs.Steps.{NoneAugments}
 use Rattle.run_theory.specs.Bests.{IsRuleStep}
 use Rattle.phase_run.proofs.RunLaws.{run_more, run_all, run_few, step_lowers, height_falls}
 use Rattle.phase_run.proofs.runs.run.Goals as goal
+use Rattle.phase_run.proofs.runs.run.Goals.{After-abs_diff}
 
 pub cost_in_phase-after-requires : goal.cost_in_phase-after-requires
 cost_in_phase-after-requires g c =
@@ -49,32 +50,36 @@ loop-steps-preserved g c =
       cost = simp to_z-of_z c.cost_in_phase-after.ensures;
     }
 
+-- the rule has no more step
+no_more : (g : _) (c : After-abs_diff g) →
+    NoneAugments c.args.fold.now.program c.args.fold.now.phase (vectors c.args.fold.now.sums) c.loop-steps.point
+no_more g c = subst (IsRuleStep c.args.fold.now c.loop-steps.point) c.in_default.is c.in_ok-step.ensures
+
+-- what the steps gain in all
+gained : (g : _) (c : After-abs_diff g) →
+    c.abs_diff.result ≡ unsigned_abs (phase_cost c.args.fold.now.program c.args.fold.now.phase c.args.point
+    -ℤ phase_cost c.args.fold.now.program c.args.fold.now.phase c.loop-steps.point)
+gained g c =
+    let before : FitsSigned w128 c.cost_in_phase-before.result = search rules in
+    let told = simp to_z-of_z at c.abs_diff.ensures in
+    told ∙ (λ i. unsigned_abs (c.cost_in_phase-before.ensures i -ℤ c.loop-steps.invariant.cost i))
+
 pub returns-clause-run : goal.returns-clause-run
 returns-clause-run g c =
     let f = c.args.fold.now in
     let x = c.args.point in
     let y = c.loop-steps.point in
-    let none : NoneAugments f.program f.phase (vectors f.sums) y =
-    subst (IsRuleStep f y) c.in_default.is c.in_ok-step.ensures in
-    let before : FitsSigned w128 c.cost_in_phase-before.result = search rules in
-    let told = simp to_z-of_z at c.abs_diff.ensures in
-    let gain : c.abs_diff.result ≡ unsigned_abs (phase_cost f.program f.phase x -ℤ phase_cost f.program f.phase y) =
-    told ∙ (λ i. unsigned_abs (c.cost_in_phase-before.ensures i -ℤ c.loop-steps.invariant.cost i)) in
-    run_all f x y c.loop-steps.steps.items c.abs_diff.result c.bound_number.result c.loop-steps.invariant.so_far none
-    gain c.bound_number.ensures
+    let past = goal.at.returns-clause-run g c in
+    run_all f x y c.loop-steps.steps.items c.abs_diff.result c.bound_number.result c.loop-steps.invariant.so_far
+    (no_more g past.After-abs_diff) (gained g past.After-abs_diff) c.bound_number.ensures
 
 pub returns-clause-few : goal.returns-clause-few
 returns-clause-few g c =
     let f = c.args.fold.now in
     let x = c.args.point in
     let y = c.loop-steps.point in
-    let none : NoneAugments f.program f.phase (vectors f.sums) y =
-    subst (IsRuleStep f y) c.in_default.is c.in_ok-step.ensures in
-    let before : FitsSigned w128 c.cost_in_phase-before.result = search rules in
-    let told = simp to_z-of_z at c.abs_diff.ensures in
-    let gain : c.abs_diff.result ≡ unsigned_abs (phase_cost f.program f.phase x -ℤ phase_cost f.program f.phase y) =
-    told ∙ (λ i. unsigned_abs (c.cost_in_phase-before.ensures i -ℤ c.loop-steps.invariant.cost i)) in
+    let past = goal.at.returns-clause-few g c in
     let program : IsProgram f.program = subst IsProgram c.program.ensures c.n.ensures.program in
     run_few f x y c.loop-steps.steps.items c.abs_diff.result c.bound_number.result program c.requires.sums
-    c.requires.start c.loop-steps.invariant.so_far none gain
+    c.requires.start c.loop-steps.invariant.so_far (no_more g past.After-abs_diff) (gained g past.After-abs_diff)
     c.bound_number.ensures

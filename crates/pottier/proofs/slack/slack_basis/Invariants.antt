@@ -1,5 +1,6 @@
 use Rattle.std.proofs.Common.{◌+◌}
-use Rattle.pottier.specs.Stages.{AreFitting, IsCompleted, first_rows}
+use Rattle.lattice_laws.proofs.Elements.{first_rows}
+use Rattle.pottier.specs.Stages.{AreFitting, IsCompleted}
 use Rattle.pottier.proofs.slack.slack_basis.Given as goal
 
 -- the members are completed for the rows so far

@@ -7,7 +7,8 @@ use Rattle.pottier.proofs.slack.unit_vectors.Goals as goal
 pub push-requires-clause-width : goal.push-requires-clause-width
 push-requires-clause-width c =
     let unit : c.deref.result.now ≡ unit_vector c.args.cols c.loop-col.col =
-    c.deref.ensures.value ∙ ap (λ v. set v c.loop-col.col (pos 1)) (c.in_ok-unit.ensures.items_if_clones_equal (λ y e. e))
+    c.deref.ensures.value ∙ ap (λ v. set v c.loop-col.col (pos 1))
+    (c.in_ok-unit.ensures.items_if_clones_equal (λ y e. e))
     ∙ unit_set c.args.cols c.loop-col.col c.loop-col-test.true in
     units_even c.args.cols c.loop-col.col c.loop-col.units _ c.loop-col.invariant unit
 
@@ -24,6 +25,8 @@ push-requires-clause-room c =
 pub loop-col-preserved : goal.loop-col-preserved
 loop-col-preserved c =
     let unit : c.deref.result.now ≡ unit_vector c.args.cols c.loop-col.col =
-    c.deref.ensures.value ∙ ap (λ v. set v c.loop-col.col (pos 1)) (c.in_ok-unit.ensures.items_if_clones_equal (λ y e. e))
+    c.deref.ensures.value ∙ ap (λ v. set v c.loop-col.col (pos 1))
+    (c.in_ok-unit.ensures.items_if_clones_equal (λ y e. e))
     ∙ unit_set c.args.cols c.loop-col.col c.loop-col-test.true in
-    units_push c.args.cols c.loop-col.col c.loop-col.units c.push.new.self _ c.loop-col.invariant c.in_ok-push.ensures unit
+    units_push c.args.cols c.loop-col.col c.loop-col.units c.push.new.self _ c.loop-col.invariant c.in_ok-push.ensures
+    unit

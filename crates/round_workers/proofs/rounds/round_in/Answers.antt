@@ -22,7 +22,8 @@ joined-requires-clause-opening g c =
     let f = c.args.task.now.fold.now in
     let x = c.args.task.now.point.now in
     (team_is_done _ f x c.in_ok-board.board c.in_ok-workers.workers.items c.in_ok-done.done.items
-    c.in_ok-done-2.done.items c.pop.new.self.items c.in-Some.opening c.in_ok-workers.ensures.team c.in_ok-done.ensures.count
+    c.in_ok-done-2.done.items c.pop.new.self.items c.in-Some.opening c.in_ok-workers.ensures.team
+    c.in_ok-done.ensures.count
     c.in_ok-done.ensures.each c.in_ok-done-2.ensures c.in-Some.ensures.items).opening
 
 pub joined-requires-clause-finished : goal.joined-requires-clause-finished
@@ -30,7 +31,8 @@ joined-requires-clause-finished g c =
     let f = c.args.task.now.fold.now in
     let x = c.args.task.now.point.now in
     (team_is_done _ f x c.in_ok-board.board c.in_ok-workers.workers.items c.in_ok-done.done.items
-    c.in_ok-done-2.done.items c.pop.new.self.items c.in-Some.opening c.in_ok-workers.ensures.team c.in_ok-done.ensures.count
+    c.in_ok-done-2.done.items c.pop.new.self.items c.in-Some.opening c.in_ok-workers.ensures.team
+    c.in_ok-done.ensures.count
     c.in_ok-done.ensures.each c.in_ok-done-2.ensures c.in-Some.ensures.items).finished
 
 pub joined-requires-clause-others : goal.joined-requires-clause-others
@@ -38,7 +40,8 @@ joined-requires-clause-others g c =
     let f = c.args.task.now.fold.now in
     let x = c.args.task.now.point.now in
     (team_is_done _ f x c.in_ok-board.board c.in_ok-workers.workers.items c.in_ok-done.done.items
-    c.in_ok-done-2.done.items c.pop.new.self.items c.in-Some.opening c.in_ok-workers.ensures.team c.in_ok-done.ensures.count
+    c.in_ok-done-2.done.items c.pop.new.self.items c.in-Some.opening c.in_ok-workers.ensures.team
+    c.in_ok-done.ensures.count
     c.in_ok-done.ensures.each c.in_ok-done-2.ensures c.in-Some.ensures.items).split
 
 pub returns-in_default-close : goal.returns-in_default-close

@@ -1,6 +1,6 @@
 use Rattle.std.proofs.Common.{arith}
+use Rattle.fold_program.proofs.PointLaws.{shape_of}
 use Rattle.phase_one.specs.Started.{lists}
-use Rattle.brick_dp.proofs.FillLaws.{shape_of}
 use Rattle.augment_run.proofs.SolveLaws.{met_after}
 use Rattle.augment_run.proofs.solving.endings.after_counted.Goals as goal
 

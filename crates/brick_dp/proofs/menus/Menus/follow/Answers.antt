@@ -2,9 +2,10 @@ use Rattle.std.proofs.Common.{◌≡◌, ◌∙◌, ◌+◌, ◌-◌, ap, sym, a
 use Rattle.std.specs.Prelude.{slice_get}
 use Rattle.std.proofs.lemmas.Option.{slice_get-get_or}
 use Rattle.fold_theory.specs.Programs.{Program, IsProgram}
+use Rattle.fold_laws.proofs.Points.{point-length, within_at}
 use Rattle.sieve_laws.specs.Sieve.{Menu}
+use Rattle.fold_program.proofs.PointLaws.{shape_of}
 use Rattle.brick_dp.proofs.ChangeLaws.{sized_at}
-use Rattle.brick_dp.proofs.FillLaws.{shape_of, within_at, length-within}
 use Rattle.brick_dp.proofs.MenuLaws.{AreFollowing, following_none, following_same, following_new, following_all}
 use Rattle.brick_dp.proofs.MenuLaws.{following_listed}
 use Rattle.brick_dp.proofs.menus.Menus.follow.Goals as goal
@@ -18,7 +19,7 @@ pub bounds-changed-done : goal.bounds-changed-done
 bounds-changed-done c =
     omega (
       arith,
-      length-within c.args.fold.now.program.bricks c.args.after.now c.requires.within,
+      point-length c.args.fold.now.program.bricks c.args.after.now c.requires.within,
       c.loop-done-test.true,
       c.requires.changed.size,
       c.n-done-end.ensures.bricks,
@@ -41,8 +42,8 @@ pub renew-requires-clause-listed : goal.renew-requires-clause-listed
 renew-requires-clause-listed c =
     let f = c.args.fold.now in
     following_listed f c.args._before.now c.args.after.now c.args.k c.loop-done.self c.loop-done.done
-    (length-within f.program.bricks c.args._before.now c.requires.before)
-    (length-within f.program.bricks c.args.after.now c.requires.within) c.loop-done.invariant
+    (point-length f.program.bricks c.args._before.now c.requires.before)
+    (point-length f.program.bricks c.args.after.now c.requires.within) c.loop-done.invariant
 
 pub loop-done-preserved : goal.loop-done-preserved
 loop-done-preserved c =
@@ -64,7 +65,7 @@ loop-done-preserved c =
           (slice_get-get_or c.args.changed.now c.loop-done.done false
           (omega (
             arith,
-            length-within f.program.bricks c.args.after.now c.requires.within,
+            point-length f.program.bricks c.args.after.now c.requires.within,
             c.loop-done-test.true,
             c.requires.changed.size,
             c.n-done-end.ensures.bricks,

@@ -1,9 +1,10 @@
 use Rattle.std.proofs.Common.{◌≡◌, ◌∙◌, ◌+◌, ◌-◌, ap, sym, arith, length, subst, slice_get, List}
 use Rattle.fold_theory.specs.Programs.{Program, IsProgram}
+use Rattle.fold_laws.proofs.Points.{point-length, within_at}
 use Rattle.sieve_laws.specs.Sieve.{Menu}
+use Rattle.fold_program.proofs.PointLaws.{shape_of}
 use Rattle.brick_dp.specs.Menus.{AreListed}
 use Rattle.brick_dp.proofs.ChangeLaws.{sized_at}
-use Rattle.brick_dp.proofs.FillLaws.{shape_of, within_at, length-within}
 use Rattle.brick_dp.proofs.MenuLaws.{MenusUpTo, menus_more, menus_all, up_to_listed}
 use Rattle.brick_dp.proofs.menus.Menus.new.Goals as goal
 
@@ -58,7 +59,7 @@ blocks-requires c =
           subst (λ (ms : List Menu). AreListed c.len.result ms) (sym c.deref.ensures.value) (
           subst (λ n. AreListed n c.loop-done.menus.items) (sym sums) (
           up_to_listed f c.args.point.now c.args.k c.loop-done.menus.items
-          (length-within f.program.bricks c.args.point.now c.requires.within)
+          (point-length f.program.bricks c.args.point.now c.requires.within)
           (subst (MenusUpTo f c.args.point.now c.args.k c.loop-done.menus.items) all c.loop-done.invariant)
           )
           );

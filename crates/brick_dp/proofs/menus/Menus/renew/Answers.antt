@@ -1,10 +1,10 @@
 use Rattle.std.proofs.Common.{◌≡◌, ◌∙◌, ◌-◌, ◌+◌, ◌*◌, ◌/◌, ◌<◌, length, Some, ap, arith, sym, subst, List, set}
 use Rattle.std.specs.Prelude.{slice_get}
 use Rattle.fold_theory.specs.Programs.{Brick}
+use Rattle.lattice_laws.proofs.Places.{there_at}
 use Rattle.sieve_laws.specs.Sieve.{Menu}
 use Rattle.brick_dp.specs.Blocks.{IsBelowAll}
 use Rattle.brick_dp.specs.Menus.{AreListed, IsBrickMenu, IsRenewed}
-use Rattle.brick_dp.proofs.FillLaws.{there_at}
 use Rattle.brick_dp.proofs.MenuLaws.{renewed_by, listed_renewed}
 use Rattle.brick_dp.proofs.BlockLaws.{blocks_forgotten, blocks_known}
 use Rattle.brick_dp.proofs.menus.Menus.renew.Goals as goal

@@ -1,6 +1,6 @@
 use Rattle.std.proofs.Common.{arith, ap, length, sym, subst, All}
 use Rattle.lattice_theory.specs.Matrices.{Matrix, rows_of}
-use Rattle.mat_files.proofs.MatrixLaws.{length_rows_of}
+use Rattle.lattice_laws.proofs.VectorLists.{length_rows_of}
 use Rattle.certificate.specs.Readable.{IsSumRow}
 use Rattle.certificate.proofs.ReadLaws.{sums_are}
 use Rattle.certificate.proofs.reading.fold.sums.Goals as goal

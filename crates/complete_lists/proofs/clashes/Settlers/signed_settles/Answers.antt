@@ -1,8 +1,9 @@
 use Rattle.std.proofs.Common.{arith, ◌≡◌, ◌+◌, ◌-◌, ◌∙◌, sym, ap, subst, true, false, Some, slice_get}
 use Rattle.lattice_theory.specs.BasisLimits.{IsNarrow}
+use Rattle.lattice_laws.proofs.Places.{slice_get-All}
 use Rattle.criterion_laws.specs.Prefixes.{clash_settles}
 use Rattle.complete_lists.specs.Searches.{Search, FitsRows}
-use Rattle.complete_lists.proofs.ScanLaws.{at-All, list_all-at}
+use Rattle.complete_lists.proofs.ScanLaws.{list_all-at}
 use Rattle.complete_lists.proofs.PlaceLaws.{signs-there}
 use Rattle.complete_lists.proofs.clashes.Settlers.signed_settles.Goals as goal
 
@@ -29,7 +30,7 @@ loop-row-preserved c =
 pub clash_settles-requires-clause-second : goal.clash_settles-requires-clause-second
 clash_settles-requires-clause-second c =
     subst (λ (s : Search). FitsRows s.basis c.row.result.now) c.self.view_is (record {
-      narrow = at-All IsNarrow c.self.inside.basis.now.rows (c.loop-row.row + 1 - 1) c.row.result.now
+      narrow = slice_get-All IsNarrow c.self.inside.basis.now.rows (c.loop-row.row + 1 - 1) c.row.result.now
           c.row.ensures.entries c.self.invariant.narrow;
       width = c.row.ensures.width;
     })

@@ -2,8 +2,9 @@ use Rattle.std.proofs.Common.{◌≤◌, ◌≤ℤ◌, unsigned_abs, FitsSigned,
 use Rattle.std.specs.Int.{w128}
 use Rattle.std.proofs.lemmas.Int.{to_z-of_z}
 use Rattle.fold_theory.specs.Costs.{value, magnitude}
+use Rattle.lattice_laws.proofs.Tests.{is_bounded_true}
 use Rattle.convex_costs.specs.Bounds.{IsAccepted, AreBounded}
-use Rattle.convex_costs.proofs.Numbers.{small_of, fits_64}
+use Rattle.convex_costs.proofs.Numbers.{fits_64}
 use Rattle.convex_costs.proofs.Accepted.{accepted_convex, accepted_small, accepted_terms, accepted_rising}
 use Rattle.convex_costs.proofs.bound_cost.BoundCost.value.Goals as goal
 
@@ -12,10 +13,11 @@ quadratic-requires c =
     let is = c.in-Quadratic.is in
     let kept = subst (λ k. IsAccepted k c.self.inside.lower c.self.inside.upper) is c.self.invariant.0 in
     let low : c.self.inside.lower ≤ℤ c.args.v = subst (λ b. b.lower ≤ℤ c.args.v) (sym c.self.view_is) c.requires.low in
-    let high : c.args.v ≤ℤ c.self.inside.upper = subst (λ b. c.args.v ≤ℤ b.upper) (sym c.self.view_is) c.requires.high in
-    let fits_a = fits_64 c.in-Quadratic.a (small_of c.in-Quadratic.a kept.numbers.0) in
-    let fits_b = fits_64 c.in-Quadratic.b (small_of c.in-Quadratic.b kept.numbers.1) in
-    let fits_c = fits_64 c.in-Quadratic.c (small_of c.in-Quadratic.c kept.numbers.2) in
+    let high : c.args.v ≤ℤ c.self.inside.upper = subst (λ b. c.args.v ≤ℤ b.upper) (sym c.self.view_is)
+    c.requires.high in
+    let fits_a = fits_64 c.in-Quadratic.a (is_bounded_true c.in-Quadratic.a kept.numbers.0) in
+    let fits_b = fits_64 c.in-Quadratic.b (is_bounded_true c.in-Quadratic.b kept.numbers.1) in
+    let fits_c = fits_64 c.in-Quadratic.c (is_bounded_true c.in-Quadratic.c kept.numbers.2) in
     let fits_v = c.ranges.v in
     record { small = simp to_z-of_z (accepted_terms _ _ _ _ _ c.args.v kept low high) }
 
@@ -30,9 +32,9 @@ returns-in-Quadratic-clause-small c =
     let is = sym (ap (λ b. b.cost) c.self.view_is) ∙ c.in-Quadratic.is in
     let kept = subst (λ b. IsAccepted b.cost b.lower b.upper) c.self.view_is c.self.invariant.0 in
     let numbers = subst AreBounded is kept.numbers in
-    let fits_a = fits_64 c.in-Quadratic.a (small_of c.in-Quadratic.a numbers.0) in
-    let fits_b = fits_64 c.in-Quadratic.b (small_of c.in-Quadratic.b numbers.1) in
-    let fits_c = fits_64 c.in-Quadratic.c (small_of c.in-Quadratic.c numbers.2) in
+    let fits_a = fits_64 c.in-Quadratic.a (is_bounded_true c.in-Quadratic.a numbers.0) in
+    let fits_b = fits_64 c.in-Quadratic.b (is_bounded_true c.in-Quadratic.b numbers.1) in
+    let fits_c = fits_64 c.in-Quadratic.c (is_bounded_true c.in-Quadratic.c numbers.2) in
     let fits_v = c.ranges.v in
     let fits : FitsSigned w128 c.quadratic.result = search rules in
     let found = simp to_z-of_z at c.quadratic.ensures in

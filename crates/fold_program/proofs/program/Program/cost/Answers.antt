@@ -3,8 +3,9 @@ use Rattle.std.specs.Int.{w128}
 use Rattle.std.specs.List.{AllZip}
 use Rattle.lattice_theory.specs.Vectors.{Vector}
 use Rattle.std.proofs.lemmas.Int.{ints, to_z-of_z}
-use Rattle.fold_program.proofs.CostLaws.{IsNextCost, length-within, within_at, in_range, brick_cost_is, cost_from_step}
-use Rattle.fold_program.proofs.CostLaws.{cost_from_end, few_here, next_cost}
+use Rattle.fold_laws.proofs.Points.{point-length, within_at}
+use Rattle.fold_program.proofs.CostLaws.{IsNextCost, in_range, brick_cost_is, cost_from_step, cost_from_end, few_here}
+use Rattle.fold_program.proofs.CostLaws.{next_cost}
 use Rattle.fold_program.proofs.program.Program.cost.Goals as goal
 use Rattle.fold_program.proofs.program.Program.cost.Goals.{After-cost_of-cost}
 
@@ -21,7 +22,7 @@ pub brick-requires-clause-to : goal.brick-requires-clause-to
 brick-requires-clause-to c =
     omega (
       arith,
-      length-within (c.args.self.now).bricks c.args.p.now c.requires.within,
+      point-length (c.args.self.now).bricks c.args.p.now c.requires.within,
       c.loop-brick-test.true,
       c.n-brick-end.ensures.bricks,
     )

@@ -2,7 +2,8 @@ use Rattle.std.proofs.Common.{arith, ◌≡◌, ◌≤◌, ◌+◌, ◌-◌, ◌
 use Rattle.std.proofs.Math.Nat.{mul-le-mul_right}
 use Rattle.std.proofs.lemmas.List.Elements.{recursion_from_All}
 use Rattle.fold_theory.specs.Costs.{BoundedCost}
-use Rattle.fold_program.proofs.AcceptLaws.{length-flat, length-map}
+use Rattle.lattice_laws.proofs.VectorLists.{length-flat}
+use Rattle.fold_program.proofs.AcceptLaws.{length-map}
 use Rattle.fold_program.proofs.ViewLaws.{bricks_are, brick_at}
 use Rattle.fold_program.proofs.CostLaws.{costs_of_row}
 use Rattle.fold_program.proofs.program.Program.costs_of.Goals as goal

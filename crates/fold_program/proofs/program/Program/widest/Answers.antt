@@ -3,8 +3,8 @@ use Rattle.std.proofs.lemmas.List.Elements.{recursion_from_All}
 use Rattle.lattice_theory.specs.Lists.{greatest}
 use Rattle.lattice_theory.specs.Vectors.{is_bounded}
 use Rattle.fold_theory.specs.Programs.{widest}
+use Rattle.lattice_laws.specs.VectorLists.{flat}
 use Rattle.fold_program.proofs.PartsLaws.{bounded_flat}
-use Rattle.fold_program.proofs.ScanLaws.{flat}
 use Rattle.fold_program.proofs.CostLaws.{differences_are, differences_small}
 use Rattle.fold_program.proofs.program.Program.widest.Goals as goal
 

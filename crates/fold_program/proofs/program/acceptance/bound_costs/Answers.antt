@@ -1,5 +1,5 @@
-use Rattle.std.proofs.Common.{rules, arith, refl, ◌≡◌, ◌<◌, sym, length, get_or, pos, ◌≤ℤ◌, ◌++◌, ◌∷◌, []}
-use Rattle.std.proofs.Common.{true, FitsSigned, w64, subst, List}
+use Rattle.std.proofs.Common.{rules, arith, refl, ◌≡◌, ◌<◌, sym, length, get_or, pos, ◌≤ℤ◌, ◌++◌, ◌∷◌, [], true}
+use Rattle.std.proofs.Common.{FitsSigned, w64, subst, List}
 use Rattle.std.specs.Vec.Iter.{into_iter_items}
 use Rattle.std.specs.Result.{is_ok}
 use Rattle.std.proofs.lemmas.Int.{to_z-of_z}

@@ -16,7 +16,8 @@ pub overflow_cast-result : goal.overflow_cast-result
 overflow_cast-result g c =
     let last = c.close_with-closed.ensures.values.2 in
     let may = subst (λ (h : Held). MayClose g.N.Gains.gains h.view) (sym c.seat.view_is) c.requires.may in
-    let few = index_few g.N.Gains.gains last.0 _ _ _ _ last.1.0 last.1.1 last.2 c.word-best.ensures c.seat.invariant.1 may in
+    let few = index_few g.N.Gains.gains last.0 _ _ _ _ last.1.0 last.1.1 last.2 c.word-best.ensures c.seat.invariant.1
+    may in
     omega (arith, few)
 
 pub returns-then-best-eq0-clause-best : goal.returns-then-best-eq0-clause-best

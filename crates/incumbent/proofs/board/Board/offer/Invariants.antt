@@ -10,7 +10,8 @@ use Rattle.incumbent.proofs.board.Board.offer.Given as goal
 abbrev pub invariant-loop-key : goal.invariant-loop-key
 invariant-loop-key g l =
     (l.seat.table ≡ l.fn.seat.table)
-    × (l.seat.view ≡ looked_view g.N.Gains.gains (Some l.fn.key.k) (marked_view l.fn.key.k Written l.fn.seat.view) l.seen)
+    × (l.seat.view ≡ looked_view g.N.Gains.gains (Some l.fn.key.k) (marked_view l.fn.key.k Written l.fn.seat.view)
+    l.seen)
     × IsIndex g.N.Gains.gains l.seen × (l.seen ≢ suc l.fn.key.k) × (l.key ≡ l.fn.key) × (l.self ≡ l.fn.self)
     × IsNoWorse (index_key g.N.Gains.gains l.fn.seat.view.seen) (index_key g.N.Gains.gains l.seen)
 

@@ -13,8 +13,12 @@ store-requires g c =
     let few = c.self.invariant.0 in
     let room = c.requires.length in
     let has = subst (λ (h : Held). HasFate c.args.k Open h.view.owned) (sym c.seat.view_is) c.requires.fate in
-    let half = c.requires.half in
-    (search rules, omega arith, store_high_allowed g.N.Gains.gains _ _ _ c.seat.invariant.1 c.args.k half.0 c.args.half has half.1 half.2)
+    let half = c.requires.half in (
+      search rules,
+      omega arith,
+      store_high_allowed g.N.Gains.gains _ _ _ c.seat.invariant.1 c.args.k half.0 c.args.half
+          has half.1 half.2,
+    )
 
 pub invariant_of-seat : goal.invariant_of-seat
 invariant_of-seat g c =

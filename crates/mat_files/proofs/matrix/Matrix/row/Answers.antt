@@ -1,5 +1,6 @@
 use Rattle.std.proofs.Common.{arith, ap, ◌∙◌, sym, length, ◌-◌, ◌≤◌, slice_get}
-use Rattle.mat_files.proofs.MatrixLaws.{length_rows_of, row_read}
+use Rattle.lattice_laws.proofs.VectorLists.{length_rows_of}
+use Rattle.mat_files.proofs.MatrixLaws.{row_read}
 use Rattle.mat_files.proofs.matrix.Matrix.row.Goals as goal
 
 pub returns-clause-entries : goal.returns-clause-entries

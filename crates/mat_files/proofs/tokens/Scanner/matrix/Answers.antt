@@ -1,6 +1,6 @@
 use Rattle.std.proofs.Common.{◌≡◌, ◌*◌, ◌≤◌, ℤ, All, length, unsigned_abs, ap, ◌∙◌, subst, sym, refl}
 use Rattle.lattice_theory.specs.Matrices.{Matrix}
-use Rattle.mat_files.proofs.MatrixLaws.{length_rows_of}
+use Rattle.lattice_laws.proofs.VectorLists.{length_rows_of}
 use Rattle.mat_files.proofs.ShapeLaws.{numbers_read, All-rows_of}
 use Rattle.mat_files.proofs.tokens.Scanner.matrix.Goals as goal
 

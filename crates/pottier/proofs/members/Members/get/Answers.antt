@@ -1,5 +1,5 @@
 use Rattle.std.proofs.Common.{◌∙◌, ◌<◌, ap, arith, length, slice_get, sym}
-use Rattle.mat_files.proofs.MatrixLaws.{length_rows_of}
+use Rattle.lattice_laws.proofs.VectorLists.{length_rows_of}
 use Rattle.pottier.proofs.MemberLaws.{member_read, one_width, same_width}
 use Rattle.pottier.proofs.members.Members.get.Goals as goal
 

@@ -1,6 +1,6 @@
 use Rattle.std.proofs.Common.{◌≡◌, ◌∙◌, ◌++◌, ◌∷◌, [], All, List, ap, arith, length, subst, sym}
 use Rattle.lattice_theory.specs.Vectors.{Vector}
-use Rattle.mat_files.proofs.MatrixLaws.{length_rows_of}
+use Rattle.lattice_laws.proofs.VectorLists.{length_rows_of}
 use Rattle.pottier.proofs.MemberLaws.{more_fit, members_more}
 use Rattle.pottier.proofs.members.Members.push.Goals as goal
 

@@ -1,8 +1,9 @@
 use Rattle.std.proofs.Common.{◌≤◌, ◌∙◌, arith, ap, length, subst, sym}
 use Rattle.std.specs.List.Sorted.{IsPermutation, IsSorted}
 use Rattle.lattice_theory.specs.Vectors.{lex_cmp}
-use Rattle.mat_files.proofs.MatrixLaws.{length_rows_of}
-use Rattle.pottier.proofs.MemberLaws.{one_width, lent, lent_sorted, lent_push, lent_order, lent_width, lent_more, lent_all}
+use Rattle.lattice_laws.proofs.VectorLists.{length_rows_of}
+use Rattle.pottier.proofs.MemberLaws.{one_width, lent, lent_sorted, lent_push, lent_order, lent_width, lent_more}
+use Rattle.pottier.proofs.MemberLaws.{lent_all}
 use Rattle.pottier.proofs.members.Members.sorted.Goals as goal
 
 pub loop-place-preserved : goal.loop-place-preserved

@@ -2,8 +2,13 @@ use Rattle.std.proofs.Common.{◌≡◌, ◌+◌, ◌-◌, ◌∙◌, ap, sym, a
 use Rattle.std.specs.Int.{w128}
 use Rattle.std.proofs.lemmas.Int.{to_z-of_z}
 use Rattle.lattice_theory.specs.Matrices.{Matrix}
-use Rattle.listed_potentials.proofs.EndLaws.{missed-more, missed-all}
-use Rattle.listed_potentials.proofs.ends.missed_after.Goals as goal
+use Rattle.walk_ends.proofs.EndLaws.{missed-more, missed-all, step-at}
+use Rattle.walk_ends.proofs.missed_after.Goals as goal
+
+pub left-requires-clause-step : goal.left-requires-clause-step
+left-requires-clause-step c =
+    step-at c.args.program.now c.args.k c.args.sum.now c.row.result.now (c.loop-at.at + 1 - 1) c.requires.step
+    (ap (λ (m : Matrix). slice_get m.rows (c.loop-at.at + 1 - 1)) (sym c.link.ensures.link) ∙ c.row.ensures.entries)
 
 pub loop-at-preserved : goal.loop-at-preserved
 loop-at-preserved c =
@@ -17,13 +22,14 @@ loop-at-preserved c =
     ∙ ap (λ (m : Matrix). slice_get m.rows (c.loop-at.at + 1 - 1)) (sym c.link.ensures.link) ∙ c.row.ensures.entries in
     record {
       so_far =
-          missed-more c.args.program.now c.args.rests.now c.args.sum.now c.row.result.now c.loop-at.at c.loop-at.missed
-          _ c.missed.result c.left.result
+          missed-more c.args.program.now c.args.k c.args.rests.now c.args.sum.now c.row.result.now c.loop-at.at
+          c.loop-at.missed _ c.missed.result c.left.result
           (omega arith) c.requires.rests rows value missed.missed refl c.loop-at.invariant.so_far;
       small = omega (arith, missed.small, c.left.ensures.small);
     }
 
 pub returns-clause-missed : goal.returns-clause-missed
 returns-clause-missed c =
-    missed-all c.args.program.now c.args.rests.now c.args.sum.now c.loop-at.at c.loop-at.missed c.requires.rests
+    missed-all c.args.program.now c.args.k c.args.rests.now c.args.sum.now c.loop-at.at c.loop-at.missed
+    c.requires.rests
     (omega (arith, c.loop-at-test.false)) c.loop-at.invariant.so_far

@@ -1,7 +1,7 @@
 use Rattle.std.proofs.Common.{◌≡◌, ◌≤◌, ◌*◌, ◌^◌, take, sum}
 use Rattle.fold_theory.specs.Programs.{link_misses}
-use Rattle.brick_dp.proofs.EndLaws.{lefts}
-use Rattle.brick_dp.proofs.ends.missed_after.Given as goal
+use Rattle.walk_ends.proofs.EndLaws.{lefts}
+use Rattle.walk_ends.proofs.missed_after.Given as goal
 
 abbrev pub invariant-loop-at : goal.invariant-loop-at
 invariant-loop-at l = record {

@@ -1,7 +1,7 @@
 use Rattle.std.proofs.Common.{rules, ◌≡◌, length, ◌⊎◌, inl, inr, w64, FitsSigned, ◌-ℤ◌}
 use Rattle.std.proofs.lemmas.Int.{to_z-of_z}
 use Rattle.int_vectors.proofs.ZipLaws.{zip_with-step, zip_with-done}
-use Rattle.pottier.proofs.pairs.difference.Goals as goal
+use Rattle.vector_sums.proofs.difference.Goals as goal
 
 pub loop-x-preserved : goal.loop-x-preserved
 loop-x-preserved c =
@@ -9,7 +9,8 @@ loop-x-preserved c =
     let fy : FitsSigned w64 c.in-Some.y.now = search rules in
     let value = simp to_z-of_z at c.entry_difference.ensures in
     let fits : FitsSigned w64 c.entry_difference.result = search rules in
-    let next = zip_with-step ◌-ℤ◌ _ _ _ _ _ _ _ _ c.in-Some.ensures.steps.0 c.in-Some.ensures.steps.1 c.loop-x.invariant in
+    let next = zip_with-step ◌-ℤ◌ _ _ _ _ _ _ _ _ c.in-Some.ensures.steps.0 c.in-Some.ensures.steps.1
+    c.loop-x.invariant in
     rw c.in_ok-push.ensures.items (simp to_z-of_z (rw value next))
 
 pub returns : goal.returns

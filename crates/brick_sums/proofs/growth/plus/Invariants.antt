@@ -1,6 +1,0 @@
-use Rattle.std.proofs.Common.{◌≡◌, ◌++◌}
-use Rattle.lattice_theory.specs.Vectors as vector
-use Rattle.brick_sums.proofs.growth.plus.Given as goal
-
-abbrev pub invariant-loop-x : goal.invariant-loop-x
-invariant-loop-x l = l.made.items ++ vector.add l.x-iterator.a.rest.now l.x-iterator.b.rest.now ≡ vector.add l.u l.e
